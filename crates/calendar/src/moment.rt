@@ -35,7 +35,7 @@ impl Day {
     /// The days since 1900-01-01.
     pub fn number(self) -> u32
         ensures value { result ≡ self }
-        ensures kept { self ≤ 401766 }
+        ensures valid { self ≤ 401766 }
     {
         self.number
     }
@@ -98,7 +98,7 @@ impl Moment {
     /// The seconds since 1900-01-01T00:00:00.
     pub fn seconds(self) -> u64
         ensures value { result ≡ self }
-        ensures kept { self ≤ 34712668799 }
+        ensures valid { self ≤ 34712668799 }
     {
         self.seconds
     }

@@ -5,7 +5,7 @@ use Rattle.std.specs.List.{list_any}
 use Rattle.std.specs.Option.{option_map_or}
 use Rattle.std.proofs.lemmas.Bool.{eqb-true}
 use Rattle.std.proofs.lemmas.List.Sums.{length-filter}
-use Rattle.seq.proofs.Kept.{found-passes}
+use Rattle.seq.proofs.Filtered.{found-passes}
 use Rattle.vocabulary.specs.Names.{same_name}
 use Rattle.vocabulary.specs.Places.{Places, holds, is_range}
 use Rattle.vocabulary.specs.Refusals.{Case}
@@ -33,7 +33,7 @@ use Rattle.proxy_rules.specs.Cutoffs.{is_late_poll}
 use Rattle.proxy_rules.specs.Instructions.{allows, instructed_on}
 use Rattle.proxy_rules.specs.Uses.{vote_on}
 use Rattle.party_views.proofs.FindLemmas.{find-filter}
-use Rattle.party_views.specs.RowsRead.{authorised_read, cast_on, for_poll, own_read, received_read, row_read}
+use Rattle.party_views.specs.RowsRead.{authorised_read, cast_on, for_poll, is_instructed_by, own_read, received_read, row_read}
 use Rattle.caller_view.specs.Rights.{forbids, governed_acts, governed_for, governed_late, governed_votes, governs_at, instructs, is_against, is_governed, is_not_own, may_vote_for, meets, no_runs, some_fail}
 use Rattle.party_views.specs.OwnViews.{holds_as_individual, nothing_of}
 use Rattle.party_views.specs.declared.views.OwnView.{OwnView}
@@ -54,13 +54,13 @@ count_by-filter test xs = sym (length-filter test (filter test xs)) ∙ ap lengt
 
 -- some pass among those that are kept, where all that pass are kept
 any-filter : {X : Type 0} (keeps passes : X → Bool) (xs : List X) → ((x : X) → (keeps x && passes x) ≡ passes x) → list_any passes (filter keeps xs) ≡ list_any passes xs
-any-filter keeps passes [] kept = refl
-any-filter keeps passes (x ∷ xs) kept =
+any-filter keeps passes [] preserved = refl
+any-filter keeps passes (x ∷ xs) preserved =
     (elim (keeps x) as (λ b. keeps x ≡ b → list_any passes (cond b (x ∷ filter keeps xs) (filter keeps xs)) ≡ (passes x || list_any passes xs)) [
-      | true ↦ λ keep. ap (λ b. passes x || b) (any-filter keeps passes xs kept)
+      | true ↦ λ keep. ap (λ b. passes x || b) (any-filter keeps passes xs preserved)
       | false ↦ λ leave.
-          let fails : passes x ≡ false = sym (kept x) ∙ ap (λ b. b && passes x) leave in
-          any-filter keeps passes xs kept ∙ ap (λ b. b || list_any passes xs) (sym fails)
+          let fails : passes x ≡ false = sym (preserved x) ∙ ap (λ b. b && passes x) leave in
+          any-filter keeps passes xs preserved ∙ ap (λ b. b || list_any passes xs) (sym fails)
     ]) refl
 
 -- some pass among what is made of them, where what is made of each passes alike
@@ -213,12 +213,21 @@ instructed_cases_by public meeting resolution enough uninstructed =
     ∷ record { refusal = NotYours; holds = uninstructed }
     ∷ []
 
+-- some instruct for the poll where some of all do
+any-instructing : (public : PublicRecord) (meeting : Meeting) (resolution : ℕ) (received : List Received)
+    → list_any (instructs (governed_on public meeting resolution) resolution) (map (for_poll resolution) (filter (is_instructed_by resolution) received))
+    ≡ list_any (instructs (governed_on public meeting resolution) resolution) received
+any-instructing public meeting resolution received =
+    let governs = governed_on public meeting resolution in
+    any-map (instructs governs resolution) (for_poll resolution) (filter (is_instructed_by resolution) received) (instructs-alike public meeting resolution)
+    ∙ any-filter (is_instructed_by resolution) (instructs governs resolution) received (λ r. and-again (is_instructed_by resolution r) (not (no_runs (governs r))))
+
 instructed-alike : (public : PublicRecord) (meeting : Meeting) (own : OwnView) (now resolution : ℕ)
     → instructed_ruling public meeting (own_read (Instructed resolution) own) now resolution ≡ instructed_ruling public meeting own now resolution
 instructed-alike public meeting own now resolution =
     λ i. record {
       cases = instructed_cases_by public meeting resolution (enough-alike own resolution i)
-          (not (any-map (instructs (governed_on public meeting resolution) resolution) (for_poll resolution) own.received (instructs-alike public meeting resolution) i));
+          (not (any-instructing public meeting resolution own.received i));
       accepted = (instructed_ruling public meeting own now resolution).accepted;
     }
 

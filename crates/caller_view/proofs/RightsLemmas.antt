@@ -1,7 +1,7 @@
 -- Places that pass a test from one to another, and what is found among a party's own things.
 use Rattle.std.proofs.Common.{◌≡◌, ℕ, zero, suc, ◌+◌, ◌<◌, ◌≤◌, Bool, true, false, not, ◌&&◌, cond, List, find, Some, None, refl, sym, ap, ◌∙◌, arith}
 use Rattle.std.specs.Prelude.{nat_eq, nat_le, nat_lt, Option, IfSome}
-use Rattle.seq.proofs.Kept.{found-any, found-passes, none-found}
+use Rattle.seq.proofs.Filtered.{found-any, found-passes, none-found}
 use Rattle.vocabulary.specs.Names.{same_name}
 use Rattle.std.specs.List.{list_any}
 use Rattle.std.proofs.lemmas.Bool.{and_parts}

@@ -12,7 +12,7 @@ const MANY: u64 = 100_000;
 #[derive(Drop)]
 pub(crate) struct Held<D> {
     disks: D,
-    told: Outcome,
+    shown: Outcome,
 }
 
 /// What is tried: what it came to at first, and the office before it and the one after it.
@@ -78,7 +78,7 @@ impl Tries {
 }
 
 /// What is told of the office in two files: what its book replies to each of some calls.
-fn told<D: DeskFiles>(disks: &D, watched: &[&str]) -> Result<Outcome, AllocError> {
+fn shown<D: DeskFiles>(disks: &D, watched: &[&str]) -> Result<Outcome, AllocError> {
     Ok(disks.copy(Stop::Never)?.ask(&Asked::Book(watched)))
 }
 
@@ -87,20 +87,20 @@ impl<D: DeskFiles> Held<D> {
     pub(crate) fn of(disks: &D, watched: &[&str]) -> Result<Held<D>, AllocError> {
         Ok(Held {
             disks: disks.copy(Stop::Never)?,
-            told: told(disks, watched)?,
+            shown: shown(disks, watched)?,
         })
     }
 
     /// Whether it is the one in two files. Files that hold the same bytes are not opened for that.
     fn is_in(&self, disks: &D, watched: &[&str]) -> Result<bool, AllocError> {
-        Ok(disks.are_like(&self.disks) || told(disks, watched)? == self.told)
+        Ok(disks.are_like(&self.disks) || shown(disks, watched)? == self.shown)
     }
 }
 
 impl<D: DeskFiles> Trial<'_, D> {
     /// Whether the same is told before and after it.
     fn is_same(&self) -> bool {
-        self.before.told == self.after.told
+        self.before.shown == self.after.shown
     }
 
     /// Whether two files hold the office before it, and whether they hold the one after it.
@@ -110,8 +110,8 @@ impl<D: DeskFiles> Trial<'_, D> {
         } else if left.are_like(&self.after.disks) {
             Ok((self.is_same(), true))
         } else {
-            let told = told(left, self.watched)?;
-            Ok((told == self.before.told, told == self.after.told))
+            let shown = shown(left, self.watched)?;
+            Ok((shown == self.before.shown, shown == self.after.shown))
         }
     }
 

@@ -44,13 +44,13 @@ pub fn reads_like<S: Alter>(
     asker: &Asker,
     book: &Book,
 ) -> Result<bool, AllocError> {
-    let Some(kept) = read_public(desk, asker) else {
+    let Some(found) = read_public(desk, asker) else {
         return Ok(false);
     };
     let Some(own) = read_own(desk, asker) else {
         return Ok(false);
     };
-    is_given(alloc, asker, book, &own, &kept.record())
+    is_given(alloc, asker, book, &own, &found.record())
 }
 
 /// Makes a desk of a database, or hands it back with the word of the fault.

@@ -28,26 +28,26 @@ const TABLES: [&str; 17] = [
 ];
 
 /// Adds a value to what is told.
-fn add_value(alloc: Global, value: ValueRef, told: &mut Vec<u8>) -> Result<(), AllocError> {
+fn add_value(alloc: Global, value: ValueRef, shown: &mut Vec<u8>) -> Result<(), AllocError> {
     match value {
-        ValueRef::Text(text) => told.extend_from_slice(text)?,
+        ValueRef::Text(text) => shown.extend_from_slice(text)?,
         ValueRef::Int(number) => {
-            told.extend_from_slice(format!(in alloc; "{number}")?.as_bytes())?
+            shown.extend_from_slice(format!(in alloc; "{number}")?.as_bytes())?
         }
-        ValueRef::Null => told.extend_from_slice(b"none")?,
-        _ => told.extend_from_slice(b"no value of a desk")?,
+        ValueRef::Null => shown.extend_from_slice(b"none")?,
+        _ => shown.extend_from_slice(b"no value of a desk")?,
     }
     Ok(())
 }
 
 /// Adds the values of a row to what is told, with this byte before each that is not the first.
-fn add_row(alloc: Global, row: &Row, parting: u8, told: &mut Vec<u8>) -> Result<(), AllocError> {
+fn add_row(alloc: Global, row: &Row, parting: u8, shown: &mut Vec<u8>) -> Result<(), AllocError> {
     for at in 0..row.column_count() {
         if let Ok(value) = row.get_ref(at) {
-            if !told.is_empty() {
-                told.push(parting)?;
+            if !shown.is_empty() {
+                shown.push(parting)?;
             }
-            add_value(alloc, value, told)?;
+            add_value(alloc, value, shown)?;
         }
     }
     Ok(())
@@ -57,10 +57,10 @@ fn add_rows(
     alloc: Global,
     rows: &[Row],
     parting: u8,
-    told: &mut Vec<u8>,
+    shown: &mut Vec<u8>,
 ) -> Result<(), AllocError> {
     for row in rows {
-        add_row(alloc, row, parting, told)?;
+        add_row(alloc, row, parting, shown)?;
     }
     Ok(())
 }
@@ -76,28 +76,28 @@ fn add_table<S: Alter>(
     alloc: Global,
     conn: &mut Connection<S>,
     sql: &str,
-    told: &mut Vec<u8>,
+    shown: &mut Vec<u8>,
 ) -> Result<(), AllocError> {
     match rows_of(conn, sql) {
-        Some(rows) => add_rows(alloc, &rows, b'\n', told)?,
-        None => told.extend_from_slice(b"no table")?,
+        Some(rows) => add_rows(alloc, &rows, b'\n', shown)?,
+        None => shown.extend_from_slice(b"no table")?,
     }
-    Ok(told.push(b'\n')?)
+    Ok(shown.push(b'\n')?)
 }
 
 /// The rows of all tables, of a database that no desk has.
 fn all_rows<S: Alter>(alloc: Global, conn: &mut Connection<S>) -> Result<Vec<u8>, AllocError> {
-    let mut told = Vec::new(alloc);
+    let mut shown = Vec::new(alloc);
     for sql in TABLES {
-        add_table(alloc, conn, sql, &mut told)?;
+        add_table(alloc, conn, sql, &mut shown)?;
     }
-    Ok(told)
+    Ok(shown)
 }
 
 fn values_of(alloc: Global, rows: &[Row]) -> Result<Vec<u8>, AllocError> {
-    let mut told = Vec::new(alloc);
-    add_rows(alloc, rows, b' ', &mut told)?;
-    Ok(told)
+    let mut shown = Vec::new(alloc);
+    add_rows(alloc, rows, b' ', &mut shown)?;
+    Ok(shown)
 }
 
 /// The values of the rows that a statement reads, with a space between two, and the store of the
@@ -139,18 +139,18 @@ pub fn open_any<S: Alter + Drop>(alloc: Global, conn: Connection<S>) -> (Outcome
 fn replies<S: Alter + Drop>(alloc: Global, conn: Connection<S>, lines: &[&str]) -> (Outcome, S) {
     match calls::open(alloc, conn) {
         Ok(mut desk) => {
-            let told = ask_book(alloc, &mut desk, lines);
-            (told, desk.close().into_store())
+            let shown = ask_book(alloc, &mut desk, lines);
+            (shown, desk.close().into_store())
         }
         Err((text, back)) => (word(alloc, text), store_of(back)),
     }
 }
 
 /// What was told, and behind it an answer that is no fault.
-fn joined(mut told: Vec<u8>, answer: Outcome) -> Outcome {
+fn joined(mut shown: Vec<u8>, answer: Outcome) -> Outcome {
     let more = answer?;
-    match told.extend_from_slice(&more) {
-        Ok(()) => Ok(told),
+    match shown.extend_from_slice(&more) {
+        Ok(()) => Ok(shown),
         Err(_) => Err("Memory"),
     }
 }

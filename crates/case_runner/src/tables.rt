@@ -13,7 +13,7 @@ use std::mem;
 
 /// Where the tables are.
 #[derive(Drop)]
-pub enum Kept {
+pub enum Held {
     /// In a database that no desk has.
     Connection(Connection<MemStore>),
     /// With a desk.
@@ -26,43 +26,43 @@ pub enum Kept {
 /// uses it proves nothing of that store again.
 pub struct Tables {
     alloc: Global,
-    kept: Kept,
+    held: Held,
 }
 
 // It is written out, so that a caller does not prove again how each part is dropped.
 impl Drop for Tables {
     fn drop(self) {
-        let Tables { alloc: _, kept: _ } = self;
+        let Tables { alloc: _, held: _ } = self;
     }
 }
 
 /// Makes a desk of a database, and tells how that ended.
-fn created(alloc: Global, conn: Connection<MemStore>) -> (Kept, &'static str) {
+fn created(alloc: Global, conn: Connection<MemStore>) -> (Held, &'static str) {
     if !conn.is_autocommit() {
-        return (Kept::Connection(conn), "a transaction");
+        return (Held::Connection(conn), "a transaction");
     }
     match calls::create(alloc, conn) {
-        Ok(desk) => (Kept::Desk(desk), "created"),
-        Err((word, conn)) => (Kept::Connection(conn), word),
+        Ok(desk) => (Held::Desk(desk), "created"),
+        Err((word, conn)) => (Held::Connection(conn), word),
     }
 }
 
 /// Opens a database as a desk, and tells how that ended.
-fn opened(alloc: Global, conn: Connection<MemStore>) -> (Kept, &'static str) {
+fn opened(alloc: Global, conn: Connection<MemStore>) -> (Held, &'static str) {
     if !conn.is_autocommit() {
-        return (Kept::Connection(conn), "a transaction");
+        return (Held::Connection(conn), "a transaction");
     }
     match calls::open(alloc, conn) {
-        Ok(desk) => (Kept::Desk(desk), "opened"),
-        Err((word, HandedBack::Connection(conn))) => (Kept::Connection(conn), word),
-        Err((word, HandedBack::Store(_))) => (Kept::Nowhere, word),
+        Ok(desk) => (Held::Desk(desk), "opened"),
+        Err((word, HandedBack::Connection(conn))) => (Held::Connection(conn), word),
+        Err((word, HandedBack::Store(_))) => (Held::Nowhere, word),
     }
 }
 
 impl Tables {
     fn desk(&mut self) -> Option<&mut Desk<MemStore>> {
-        match &mut self.kept {
-            Kept::Desk(desk) => Some(desk),
+        match &mut self.held {
+            Held::Desk(desk) => Some(desk),
             _ => None,
         }
     }
@@ -70,40 +70,40 @@ impl Tables {
 
 impl MemoryDesk for Tables {
     fn new(alloc: Global) -> Result<Tables, AllocError> {
-        let kept = Kept::Connection(Connection::open_in_memory(alloc)?);
-        Ok(Tables { alloc, kept })
+        let held = Held::Connection(Connection::open_in_memory(alloc)?);
+        Ok(Tables { alloc, held })
     }
 
     fn create(&mut self) -> &'static str {
-        let (kept, word) = match mem::replace(&mut self.kept, Kept::Nowhere) {
-            Kept::Connection(conn) => created(self.alloc, conn),
-            kept => (kept, "no database"),
+        let (held, word) = match mem::replace(&mut self.held, Held::Nowhere) {
+            Held::Connection(conn) => created(self.alloc, conn),
+            held => (held, "no database"),
         };
-        self.kept = kept;
+        self.held = held;
         word
     }
 
     fn open(&mut self) -> &'static str {
-        let (kept, word) = match mem::replace(&mut self.kept, Kept::Nowhere) {
-            Kept::Connection(conn) => opened(self.alloc, conn),
-            kept => (kept, "no database"),
+        let (held, word) = match mem::replace(&mut self.held, Held::Nowhere) {
+            Held::Connection(conn) => opened(self.alloc, conn),
+            held => (held, "no database"),
         };
-        self.kept = kept;
+        self.held = held;
         word
     }
 
     fn close(&mut self) -> &'static str {
-        let (kept, word) = match mem::replace(&mut self.kept, Kept::Nowhere) {
-            Kept::Desk(desk) => (Kept::Connection(desk.close()), "closed"),
-            kept => (kept, "no desk"),
+        let (held, word) = match mem::replace(&mut self.held, Held::Nowhere) {
+            Held::Desk(desk) => (Held::Connection(desk.close()), "closed"),
+            held => (held, "no desk"),
         };
-        self.kept = kept;
+        self.held = held;
         word
     }
 
     fn execute(&mut self, sql: &str) -> &'static str {
-        match &mut self.kept {
-            Kept::Connection(conn) => {
+        match &mut self.held {
+            Held::Connection(conn) => {
                 if calls::execute(conn, sql) {
                     "done"
                 } else {

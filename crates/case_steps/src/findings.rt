@@ -20,7 +20,7 @@ pub struct Findings<'a> {
     name: &'a str,
     answers: u64,
     tries: u64,
-    told: String,
+    written: String,
 }
 
 impl Answer {
@@ -84,18 +84,18 @@ impl<'a> Findings<'a> {
             name,
             answers: 0,
             tries: 0,
-            told: String::new(alloc),
+            written: String::new(alloc),
         }
     }
 
     /// Whether there was an answer, and nothing but what is expected.
     pub fn is_all_expected(&self) -> bool {
-        self.answers > 0 && self.told.is_empty()
+        self.answers > 0 && self.written.is_empty()
     }
 
     /// Tells what is wrong at a line of the file.
     fn report(&mut self, line: u64, what: &str) -> Result<(), AllocError> {
-        writeln!(self.told, "{}:{line}: {what}", self.name)
+        writeln!(self.written, "{}:{line}: {what}", self.name)
     }
 
     /// Tells the lines that have no form or no place.
@@ -182,8 +182,11 @@ impl fmt::Display for Findings<'_> {
             name,
             answers,
             tries,
-            told,
+            written,
         } = self;
-        write!(f, "{told}{name}: {answers} answers, {tries} tries, {ended}")
+        write!(
+            f,
+            "{written}{name}: {answers} answers, {tries} tries, {ended}"
+        )
     }
 }

@@ -101,7 +101,7 @@ pub(crate) fn request_answer(alloc: Global, bytes: &[u8]) -> Result<Answer, Allo
 /// Answers to a row of numbers, each with the first and the last number of those that have it.
 #[derive(Drop)]
 struct Runs {
-    told: String,
+    written: String,
     from: usize,
     to: usize,
     answer: String,
@@ -110,7 +110,7 @@ struct Runs {
 impl Runs {
     fn new(alloc: Global) -> Runs {
         Runs {
-            told: String::new(alloc),
+            written: String::new(alloc),
             from: 0,
             to: 0,
             answer: String::new(alloc),
@@ -122,7 +122,11 @@ impl Runs {
         if self.answer.is_empty() {
             return Ok(());
         }
-        writeln!(self.told, "{} to {}: {}", self.from, self.to, self.answer)
+        writeln!(
+            self.written,
+            "{} to {}: {}",
+            self.from, self.to, self.answer
+        )
     }
 
     /// Adds the answer to the next number.
@@ -149,7 +153,7 @@ pub(crate) fn cut_answer(alloc: Global, bytes: &[u8]) -> Result<Answer, AllocErr
         runs.add(count, asked_by(alloc, front, reads)?)?;
     }
     runs.end()?;
-    Ok(Answer::new(alloc, runs.told))
+    Ok(Answer::new(alloc, runs.written))
 }
 
 /// What is asked where the bytes are read one by one, and each read fails in turn: the first one,
@@ -164,5 +168,5 @@ pub(crate) fn failing_answer(alloc: Global, bytes: &[u8]) -> Result<Answer, Allo
         runs.add(read, asked_by(alloc, bytes, reads)?)?;
     }
     runs.end()?;
-    Ok(Answer::new(alloc, runs.told))
+    Ok(Answer::new(alloc, runs.written))
 }

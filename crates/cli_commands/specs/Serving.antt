@@ -23,5 +23,5 @@ abbrev pub EndsServing : {L R W C O : Type 0} → listener.Ghosts L R W → sour
     → sink.Ghosts W → clock.Ghosts C → office.Ghosts O → ℕ → Standing L C O → Standing L C O
     → Ending → Type 0
 EndsServing l r w k g requests before after end =
-    (told : Result (Unit {0}) LoopFault) × (end ≡ ending_of told)
-    × ServesTurns l r w k g requests told before after
+    (returned : Result (Unit {0}) LoopFault) × (end ≡ ending_of returned)
+    × ServesTurns l r w k g requests returned before after

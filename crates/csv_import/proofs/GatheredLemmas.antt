@@ -59,11 +59,11 @@ held-more cmp key xs held held' y holds updates wanted =
 pub shares-more : (rows : List RegisterRow) (row : RegisterRow) → all_shares (rows ++ row ∷ []) ≡ all_shares rows + row.shares
 shares-more rows row = omega (arith, sum_by-append (λ (r : RegisterRow). r.shares) rows (row ∷ []))
 
-pub kept-more : (rows : List RegisterRow) (row : RegisterRow) → may_begin_register rows ≡ true → length rows < 20000 → is_holding row ≡ true → list_any (λ earlier. same_member earlier row) rows ≡ false
+pub valid-more : (rows : List RegisterRow) (row : RegisterRow) → may_begin_register rows ≡ true → length rows < 20000 → is_holding row ≡ true → list_any (λ earlier. same_member earlier row) rows ≡ false
     → all_shares rows + row.shares ≤ MOST_SHARES → may_begin_register (rows ++ row ∷ []) ≡ true
-kept-more rows row kept few holding other fits =
-    let limits : (nat_le (length rows) 20000 && list_all is_holding rows && nat_le (all_shares rows) MOST_SHARES) ≡ true = first_so _ (differ_by same_member rows) kept in
-    let differ : differ_by same_member rows ≡ true = second_so (nat_le (length rows) 20000 && list_all is_holding rows && nat_le (all_shares rows) MOST_SHARES) (differ_by same_member rows) kept in
+valid-more rows row valid few holding other fits =
+    let limits : (nat_le (length rows) 20000 && list_all is_holding rows && nat_le (all_shares rows) MOST_SHARES) ≡ true = first_so _ (differ_by same_member rows) valid in
+    let differ : differ_by same_member rows ≡ true = second_so (nat_le (length rows) 20000 && list_all is_holding rows && nat_le (all_shares rows) MOST_SHARES) (differ_by same_member rows) valid in
     let holdings : (nat_le (length rows) 20000 && list_all is_holding rows) ≡ true = first_so (nat_le (length rows) 20000 && list_all is_holding rows) (nat_le (all_shares rows) MOST_SHARES) limits in
     let more : length (rows ++ row ∷ []) ≡ length rows + 1 = length-append rows (row ∷ []) in
     let count : length (rows ++ row ∷ []) ≤ 20000 = omega arith in
@@ -119,16 +119,16 @@ module _ (rows : List RegisterRow) (members : BTreeSet (List ℕ)) (total : ℕ)
   rows-more members' few holding new updates fit = record {
     members_are = held-more name_cmp (λ (r : RegisterRow). r.member) rows members members' row so_far.members_are updates;
     total_is = omega (arith, shares-more rows row, so_far.total_is);
-    kept = kept-more rows row so_far.kept few holding (sym (so_far.members_are row.member) ∙ new) (omega (arith, so_far.total_is));
+    valid = valid-more rows row so_far.valid few holding (sym (so_far.members_are row.member) ∙ new) (omega (arith, so_far.total_is));
   }
 
 -- ---- keys
 
-pub keys-kept-more : (rows : List KeyRow) (row : KeyRow) → may_begin_keys rows ≡ true → length rows < 40000 → list_any (λ earlier. same_caller earlier row) rows ≡ false
+pub keys-valid-more : (rows : List KeyRow) (row : KeyRow) → may_begin_keys rows ≡ true → length rows < 40000 → list_any (λ earlier. same_caller earlier row) rows ≡ false
     → list_any (λ earlier. same_secret earlier row) rows ≡ false → may_begin_keys (rows ++ row ∷ []) ≡ true
-keys-kept-more rows row kept few caller secret =
-    let limits : (nat_le (length rows) 40000 && differ_by same_secret rows) ≡ true = first_so _ (differ_by same_caller rows) kept in
-    let callers : differ_by same_caller rows ≡ true = second_so (nat_le (length rows) 40000 && differ_by same_secret rows) (differ_by same_caller rows) kept in
+keys-valid-more rows row valid few caller secret =
+    let limits : (nat_le (length rows) 40000 && differ_by same_secret rows) ≡ true = first_so _ (differ_by same_caller rows) valid in
+    let callers : differ_by same_caller rows ≡ true = second_so (nat_le (length rows) 40000 && differ_by same_secret rows) (differ_by same_caller rows) valid in
     let secrets : differ_by same_secret rows ≡ true = second_so (nat_le (length rows) 40000) (differ_by same_secret rows) limits in
     let more : length (rows ++ row ∷ []) ≡ length rows + 1 = length-append rows (row ∷ []) in
     let count : length (rows ++ row ∷ []) ≤ 40000 = omega arith in
@@ -178,7 +178,7 @@ module _ (rows : List KeyRow) (callers : BTreeSet (Option (List ℕ))) (secrets 
   keys-more callers' secrets' new other updates updates' = record {
     callers_are = held-more (option_cmp name_cmp) (λ (r : KeyRow). party_in r.caller) rows callers callers' row so_far.callers_are updates;
     secrets_are = held-more name_cmp (λ (r : KeyRow). r.secret) rows secrets secrets' row so_far.secrets_are updates';
-    kept = keys-kept-more rows row so_far.kept few (sym (so_far.callers_are (party_in row.caller)) ∙ new) (sym (so_far.secrets_are row.secret) ∙ other);
+    valid = keys-valid-more rows row so_far.valid few (sym (so_far.callers_are (party_in row.caller)) ∙ new) (sym (so_far.secrets_are row.secret) ∙ other);
   }
 
 -- whether a key is new, as its insertion tells

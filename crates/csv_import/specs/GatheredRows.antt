@@ -33,7 +33,7 @@ pub record HasGatheredRows (rows : List RegisterRow) (members : BTreeSet (List �
     : Type 0 where
   pub members_are : IsSetOf name_cmp (λ (row : RegisterRow). row.member) rows members
   pub total_is : total ≡ all_shares rows
-  pub kept : may_begin_register rows ≡ true
+  pub valid : may_begin_register rows ≡ true
 
 -- at most `MOST_KEYS` keys, of different callers and different
 abbrev pub may_begin_keys : List KeyRow → Bool
@@ -46,4 +46,4 @@ pub record HasGatheredKeys (rows : List KeyRow) (callers : BTreeSet (Option (Lis
   pub callers_are : IsSetOf (option_cmp name_cmp) (λ (row : KeyRow). party_in row.caller) rows
       callers
   pub secrets_are : IsSetOf name_cmp (λ (row : KeyRow). row.secret) rows secrets
-  pub kept : may_begin_keys rows ≡ true
+  pub valid : may_begin_keys rows ≡ true

@@ -7,7 +7,7 @@ use byte_io::ReadDevice;
 use cli_exit::{Ended, ExitError, Line};
 use desk_file::DiskFiles;
 use host::Host;
-use host_run::{run, tell};
+use host_run::{report, run};
 use sql_file::{Begins, DeskFile, SystemFiles, Wary};
 use std::process::ExitCode;
 use std::{env, io};
@@ -47,7 +47,7 @@ fn run_on<S: Begins>(rt: HostRuntime) -> u8 {
     };
     match words(&rt) {
         Ok(words) => run(rt.alloc(), &words, &mut host),
-        Err(ended) => tell(&ended, &mut host.output, &mut host.errors),
+        Err(ended) => report(&ended, &mut host.output, &mut host.errors),
     }
 }
 

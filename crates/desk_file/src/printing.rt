@@ -43,7 +43,7 @@ pub fn results<S: Alter, W: Sink>(
         → Survives (state S.Store desk.old) (state S.Store desk.new) (λ _. ⊥) }
 {
     match desk.read_public(meeting) {
-        Ok(kept) => desk_papers::show_results(alloc, &kept.record(), writer),
+        Ok(found) => desk_papers::show_results(alloc, &found.record(), writer),
         Err(failure) => Ended::by_failure(failure),
     }
 }

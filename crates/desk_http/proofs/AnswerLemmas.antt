@@ -29,19 +29,19 @@ use Rattle.desk_http.specs.declared.answers.AnswerError.TheVariants as unanswere
 -- ---- what is replied
 
 module _ (Stands : OfficeLists → Type 0) (office : OfficeLists) (now : Moment) (stands : Stands office) where
-  -- to what was not heard of a caller
-  pub unheard_done : {E : Type 0} (who : Caller) (heard : Result Request ReceiveError) (why : ReceiveError) (r : Result Answered E) → heard ≡ Err why → IfOk r (IsAnswer (unread_reply why))
-      → IfOk r (λ a. IsAnswer (reply_of office now (Some who) heard) a × Stands (office_after office (call_of now (Some who) heard)))
-  unheard_done who heard why (Err e) is shown = tt
-  unheard_done who heard why (Ok a) is shown =
+  -- to an unreadable request of a caller
+  pub unreceived_done : {E : Type 0} (who : Caller) (content : Result Request ReceiveError) (why : ReceiveError) (r : Result Answered E) → content ≡ Err why → IfOk r (IsAnswer (unread_reply why))
+      → IfOk r (λ a. IsAnswer (reply_of office now (Some who) content) a × Stands (office_after office (call_of now (Some who) content)))
+  unreceived_done who content why (Err e) is shown = tt
+  unreceived_done who content why (Ok a) is shown =
       subst (λ h. IsAnswer (reply_of office now (Some who) h) a × Stands (office_after office (call_of now (Some who) h))) (sym is) (shown, stands)
 
   -- to a key that is nobody's
-  pub nobody_done : {E : Type 0} (who : Option Caller) (heard : Result Request ReceiveError) (r : Result Answered E) → who ≡ None → IfOk r (ShowsReply (reply.Refused Key))
-      → IfOk r (λ a. IsAnswer (reply_of office now who heard) a × Stands (office_after office (call_of now who heard)))
-  nobody_done who heard (Err e) is shown = tt
-  nobody_done who heard (Ok a) is shown =
-      subst (λ w. IsAnswer (reply_of office now w heard) a × Stands (office_after office (call_of now w heard))) (sym is) ((reply.Refused Key, refl, shown), stands)
+  pub nobody_done : {E : Type 0} (who : Option Caller) (content : Result Request ReceiveError) (r : Result Answered E) → who ≡ None → IfOk r (ShowsReply (reply.Refused Key))
+      → IfOk r (λ a. IsAnswer (reply_of office now who content) a × Stands (office_after office (call_of now who content)))
+  nobody_done who content (Err e) is shown = tt
+  nobody_done who content (Ok a) is shown =
+      subst (λ w. IsAnswer (reply_of office now w content) a × Stands (office_after office (call_of now w content))) (sym is) ((reply.Refused Key, refl, shown), stands)
 
   -- to what was refused as it came
   pub refused_done : {E : Type 0} (received : ReceivedRequest) (refusal : Refusal) (r : Result Answered E) → received ≡ Refused refusal → IfOk r (ShowsReply (reply.Refused refusal))
@@ -56,7 +56,7 @@ if_ok_or_none (Err e) call = inl refl
 
 nobody_calls : (now : Moment) (received : ReceivedRequest) → call_by now None received ≡ None
 nobody_calls now (Refused refusal) = refl
-nobody_calls now (With key heard) = refl
+nobody_calls now (With key content) = refl
 
 -- behind a reading, the one call is tried
 tries_call : {T E : Type 0} (call : Option Call) (r : Result T E) → calls_tried (Reads ∷ asked_by call r) ≡ calls_in (call ∷ [])
@@ -76,7 +76,7 @@ always_err (Ok x) w = tt
 always_err (Err e) w = w
 
 -- what is not answered of a caller is cut off only where its source failed
-pub fault_cut : (heard : Result Request ReceiveError) (why : AnswerError) → AnswerMayFail heard why → why ≡ unanswered.CutOff → source_failed heard ≡ true
+pub fault_cut : (content : Result Request ReceiveError) (why : AnswerError) → AnswerMayFail content why → why ≡ unanswered.CutOff → source_failed content ≡ true
 fault_cut (Ok request) why (failed, is) cut = let both : unanswered.Failure failed ≡ unanswered.CutOff = sym is ∙ cut in absurd (cc)
 fault_cut (Err (unreceived.Refused refusal)) why is cut = let both = sym is ∙ cut in absurd (cc)
 fault_cut (Err unreceived.Memory) why is cut = let both = sym is ∙ cut in absurd (cc)
@@ -118,20 +118,20 @@ module _ {O : Type 0} (g : office.Ghosts O) where
   }
 
   -- the call is tried of the caller that was found, and made if it is answered
-  pub makes_found : {T E : Type 0} (r : Result T E) (found : Option Caller) (now : Moment) (key : List ℕ) (heard : Result Request ReceiveError) (a b c : O)
+  pub makes_found : {T E : Type 0} (r : Result T E) (found : Option Caller) (now : Moment) (key : List ℕ) (content : Result Request ReceiveError) (a b c : O)
       → (g.is_reliable b → (office : OfficeLists) → g.stands a office → found ≡ caller_with office.keys key) → LeavesOffice g None a b → (g.is_reliable b → CrashLeaves g Reads a b)
-      → LeavesOffice g (if_ok r (call_of now found heard)) b c → LeadsOn g b (asked_by (call_of now found heard) r) c
-      → MakesCall g now (With key heard) a c
-  makes_found r found now key heard a b c is one crash two leads = record {
-    asked = Reads ∷ asked_by (call_of now found heard) r;
+      → LeavesOffice g (if_ok r (call_of now found content)) b c → LeadsOn g b (asked_by (call_of now found content) r) c
+      → MakesCall g now (With key content) a c
+  makes_found r found now key content a b c is one crash two leads = record {
+    asked = Reads ∷ asked_by (call_of now found content) r;
     leads = (b, one, crash, leads);
     found = found;
-    tries = tries_call (call_of now found heard) r;
-    by = λ reliable office stands. inr (ap (λ w. call_of now w heard) (is (two.was_reliable reliable) office stands));
-    made = if_ok r (call_of now found heard);
-    answers = answers_call (call_of now found heard) r;
-    is_tried = if_ok_or_none r (call_of now found heard);
-    leaves = leaves_then g.is_reliable g.is_open g.stands g.faults (if_ok r (call_of now found heard)) a b c one two;
+    tries = tries_call (call_of now found content) r;
+    by = λ reliable office stands. inr (ap (λ w. call_of now w content) (is (two.was_reliable reliable) office stands));
+    made = if_ok r (call_of now found content);
+    answers = answers_call (call_of now found content) r;
+    is_tried = if_ok_or_none r (call_of now found content);
+    leaves = leaves_then g.is_reliable g.is_open g.stands g.faults (if_ok r (call_of now found content)) a b c one two;
   }
 
   -- what failed behind a reading made no call
@@ -139,23 +139,23 @@ module _ {O : Type 0} (g : office.Ghosts O) where
   unmade_behind (Ok x) call a b c one two = tt
   unmade_behind (Err e) call a b c one two = leaves_then g.is_reliable g.is_open g.stands g.faults None a b c one two
 
-  -- what was not heard makes no call
-  pub unheard_leaves : {T E : Type 0} (o : O) (r : Result T E) (now : Moment) (who : Caller) (heard : Result Request ReceiveError) (why : ReceiveError) → heard ≡ Err why
-      → LeavesOffice g (if_ok r (call_of now (Some who) heard)) o o
-  unheard_leaves o (Err e) now who heard why is = not_asked o
-  unheard_leaves o (Ok x) now who heard why is = subst (λ h. LeavesOffice g (call_of now (Some who) h) o o) (sym is) (not_asked o)
+  -- an unreadable request makes no call
+  pub unreceived_leaves : {T E : Type 0} (o : O) (r : Result T E) (now : Moment) (who : Caller) (content : Result Request ReceiveError) (why : ReceiveError) → content ≡ Err why
+      → LeavesOffice g (if_ok r (call_of now (Some who) content)) o o
+  unreceived_leaves o (Err e) now who content why is = not_asked o
+  unreceived_leaves o (Ok x) now who content why is = subst (λ h. LeavesOffice g (call_of now (Some who) h) o o) (sym is) (not_asked o)
 
-  -- what was not heard asks nothing
-  pub unheard_leads : {T E : Type 0} (o : O) (r : Result T E) (now : Moment) (who : Caller) (heard : Result Request ReceiveError) (why : ReceiveError) → heard ≡ Err why
-      → LeadsOn g o (asked_by (call_of now (Some who) heard) r) o
-  unheard_leads o r now who heard why is = subst (λ h. LeadsOn g o (asked_by (call_of now (Some who) h) r) o) (sym is) refl
+  -- an unreadable request asks nothing
+  pub unreceived_leads : {T E : Type 0} (o : O) (r : Result T E) (now : Moment) (who : Caller) (content : Result Request ReceiveError) (why : ReceiveError) → content ≡ Err why
+      → LeadsOn g o (asked_by (call_of now (Some who) content) r) o
+  unreceived_leads o r now who content why is = subst (λ h. LeadsOn g o (asked_by (call_of now (Some who) h) r) o) (sym is) refl
 
   -- of a caller that was found, it is cut off only where its source failed
-  pub found_cut : {T : Type 0} (r : Result T AnswerError) (key : List ℕ) (heard : Result Request ReceiveError) (who : Caller) (a b c : O)
-      → (g.is_reliable b → (office : OfficeLists) → g.stands a office → Some who ≡ caller_with office.keys key) → (g.is_reliable c → g.is_reliable b) → IfErr r (AnswerMayFail heard)
-      → IfErr r (λ why. why ≡ unanswered.CutOff → IsCutOff g (With key heard) a c)
-  found_cut (Ok x) key heard who a b c found reliable h = tt
-  found_cut (Err why) key heard who a b c found reliable h = λ cut. record {
-    cut_off = fault_cut heard why h cut;
+  pub found_cut : {T : Type 0} (r : Result T AnswerError) (key : List ℕ) (content : Result Request ReceiveError) (who : Caller) (a b c : O)
+      → (g.is_reliable b → (office : OfficeLists) → g.stands a office → Some who ≡ caller_with office.keys key) → (g.is_reliable c → g.is_reliable b) → IfErr r (AnswerMayFail content)
+      → IfErr r (λ why. why ≡ unanswered.CutOff → IsCutOff g (With key content) a c)
+  found_cut (Ok x) key content who a b c found reliable h = tt
+  found_cut (Err why) key content who a b c found reliable h = λ cut. record {
+    cut_off = fault_cut content why h cut;
     caller = λ is_reliable office stands. ap is_some (sym (found (reliable is_reliable) office stands));
   }

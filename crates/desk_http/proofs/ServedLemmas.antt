@@ -24,19 +24,19 @@ first_of_two (inl a) none = a
 first_of_two (inr b) none = absurd (none b)
 
 -- what holds where all was written
-pub sent_well : {T E : Type 0} {P Q : Type 0} (written : Result T E) (told : Result T ServeFault) → told ≡ as_write written → OnOk written P → (P → Q) → OnOk told Q
-sent_well {T} {E} {P} {Q} (Ok x) told is h next = subst (λ r. OnOk r Q) (sym is) (next h)
-sent_well {T} {E} {P} {Q} (Err e) told is h next = subst (λ r. OnOk r Q) (sym is) tt
+pub sent_well : {T E : Type 0} {P Q : Type 0} (written : Result T E) (returned : Result T ServeFault) → returned ≡ as_write written → OnOk written P → (P → Q) → OnOk returned Q
+sent_well {T} {E} {P} {Q} (Ok x) returned is h next = subst (λ r. OnOk r Q) (sym is) (next h)
+sent_well {T} {E} {P} {Q} (Err e) returned is h next = subst (λ r. OnOk r Q) (sym is) tt
 
 -- and what holds where a write failed
-pub sent_badly : {T E : Type 0} {P Q : Type 0} (written : Result T E) (told : Result T ServeFault) → told ≡ as_write written → OnErr written P → (P → Q) → IfErr told (λ fault. fault ≡ Write → Q)
-sent_badly {T} {E} {P} {Q} (Ok x) told is h next = subst (λ r. IfErr r (λ fault. fault ≡ Write → Q)) (sym is) tt
-sent_badly {T} {E} {P} {Q} (Err e) told is h next = subst (λ r. IfErr r (λ fault. fault ≡ Write → Q)) (sym is) (λ _. next h)
+pub sent_badly : {T E : Type 0} {P Q : Type 0} (written : Result T E) (returned : Result T ServeFault) → returned ≡ as_write written → OnErr written P → (P → Q) → IfErr returned (λ fault. fault ≡ Write → Q)
+sent_badly {T} {E} {P} {Q} (Ok x) returned is h next = subst (λ r. IfErr r (λ fault. fault ≡ Write → Q)) (sym is) tt
+sent_badly {T} {E} {P} {Q} (Err e) returned is h next = subst (λ r. IfErr r (λ fault. fault ≡ Write → Q)) (sym is) (λ _. next h)
 
 -- a write that failed is no cut-off body
-sent_read : {T E : Type 0} (P : Type 0) (written : Result T E) (told : Result T ServeFault) → told ≡ as_write written → OnFault told Read P
-sent_read {T} {E} P (Ok x) told is = subst (λ r. OnFault r Read P) (sym is) tt
-sent_read {T} {E} P (Err e) told is = subst (λ r. OnFault r Read P) (sym is) (λ same. absurd (cc))
+sent_read : {T E : Type 0} (P : Type 0) (written : Result T E) (returned : Result T ServeFault) → returned ≡ as_write written → OnFault returned Read P
+sent_read {T} {E} P (Ok x) returned is = subst (λ r. OnFault r Read P) (sym is) tt
+sent_read {T} {E} P (Err e) returned is = subst (λ r. OnFault r Read P) (sym is) (λ same. absurd (cc))
 
 on_read : {T : Type 0} (r : Result T ServeFault) {P Q : Type 0} → OnFault r Read P → (P → Q) → OnFault r Read Q
 on_read (Ok x) h next = tt
@@ -78,36 +78,36 @@ module _ {O : Type 0} (g : office.Ghosts O) where
   pub failed_partly : {T : Type 0} (r : Result T ServeFault) (now : Moment) (received : ReceivedRequest) (old new : O) (why : AnswerError) (IsWritten : List ℕ → Type 0)
       → LeavesOffice g None old new → IfErr r (λ fault. fault ≡ Write → FailureTextHolds why IsWritten) → IfErr r (λ fault. fault ≡ Write → Serves g now received old new IsWritten)
   failed_partly (Ok x) now received old new why IsWritten leaves h = tt
-  failed_partly (Err e) now received old new why IsWritten leaves h = λ is. let told = h is in serves_failure now received old new told.0 IsWritten leaves told.2
+  failed_partly (Err e) now received old new why IsWritten leaves h = λ is. let returned = h is in serves_failure now received old new returned.0 IsWritten leaves returned.2
 
 module _ {O W : Type 0} (g : office.Ghosts O) (h : sink.Ghosts W) (now : Moment) (received : ReceivedRequest) (old new : O) (before after : W) where
   -- where there is an answer, and it is written
-  pub answered_replies : {T E : Type 0} (written : Result T E) (told : Result T ServeFault) (answered : Answered) → told ≡ as_write written
+  pub answered_replies : {T E : Type 0} (written : Result T E) (returned : Result T ServeFault) (answered : Answered) → returned ≡ as_write written
       → (g.is_reliable new → (office : OfficeLists) → g.stands old office
       → IsAnswer (reply_in office now received) answered × g.stands new (office_after office (call_received office now received)))
       → MakesCall g now received old new
       → OnOk written (WritesText h before after (reply_text answered.status answered.body.items)) → OnErr written (WritesPart h before after (reply_text answered.status answered.body.items))
       → OnOk written (h.failures after ≡ h.failures before) → OnErr written (FailsWriting h before after)
-      → Replies g h now received told old new before after
-  answered_replies written told answered is done makes all part works failed = record {
-    served = sent_well written told is all (serves_reply g now received old new answered (WritesText h before after) done);
-    partly = sent_badly written told is part (serves_reply g now received old new answered (WritesPart h before after) done);
-    unread = sent_read _ written told is;
+      → Replies g h now received returned old new before after
+  answered_replies written returned answered is done makes all part works failed = record {
+    served = sent_well written returned is all (serves_reply g now received old new answered (WritesText h before after) done);
+    partly = sent_badly written returned is part (serves_reply g now received old new answered (WritesPart h before after) done);
+    unread = sent_read _ written returned is;
     makes = makes;
-    works = sent_well written told is works (λ same. same);
-    failed = sent_badly written told is failed (λ same. same);
+    works = sent_well written returned is works (λ same. same);
+    failed = sent_badly written returned is failed (λ same. same);
   }
 
   -- where there is none, and its failure is told
-  pub unanswered_replies : {T : Type 0} (told : Result T ServeFault) (why : AnswerError) → (why ≡ CutOff → IsCutOff g received old new) → LeavesOffice g None old new
+  pub unanswered_replies : {T : Type 0} (returned : Result T ServeFault) (why : AnswerError) → (why ≡ CutOff → IsCutOff g received old new) → LeavesOffice g None old new
       → MakesCall g now received old new
-      → OnOk told (FailureTextHolds why (WritesText h before after)) → OnFault told Write (FailureTextHolds why (WritesPart h before after)) → OnFault told Read ((why ≡ CutOff) × (after ≡ before))
-      → OnOk told (h.failures after ≡ h.failures before) → OnFault told Write (FailsWriting h before after)
-      → Replies g h now received told old new before after
-  unanswered_replies told why cause leaves makes all part unread works failed = record {
-    served = failed_served g told now received old new why (WritesText h before after) leaves all;
-    partly = failed_partly g told now received old new why (WritesPart h before after) leaves part;
-    unread = on_read told unread (λ it. (cause it.0, leaves, it.1));
+      → OnOk returned (FailureTextHolds why (WritesText h before after)) → OnFault returned Write (FailureTextHolds why (WritesPart h before after)) → OnFault returned Read ((why ≡ CutOff) × (after ≡ before))
+      → OnOk returned (h.failures after ≡ h.failures before) → OnFault returned Write (FailsWriting h before after)
+      → Replies g h now received returned old new before after
+  unanswered_replies returned why cause leaves makes all part unread works failed = record {
+    served = failed_served g returned now received old new why (WritesText h before after) leaves all;
+    partly = failed_partly g returned now received old new why (WritesPart h before after) leaves part;
+    unread = on_read returned unread (λ it. (cause it.0, leaves, it.1));
     makes = makes;
     works = works;
     failed = failed;
@@ -116,6 +116,6 @@ module _ {O W : Type 0} (g : office.Ghosts O) (h : sink.Ghosts W) (now : Moment)
 -- ---- one request
 
 -- what a device did is not told as a clock that gave no moment
-pub served_no_clock : {T : Type 0} (told : Result T ServeFault) → as_served told ≡ Err Clock → ⊥
+pub served_no_clock : {T : Type 0} (returned : Result T ServeFault) → as_served returned ≡ Err Clock → ⊥
 served_no_clock (Ok x) is = absurd (cc)
 served_no_clock (Err fault) is = absurd (cc)

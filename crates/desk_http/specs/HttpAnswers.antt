@@ -27,10 +27,10 @@ use Rattle.desk_http.specs.declared.answers.Answered.{Answered}
 use Rattle.desk_http.specs.declared.answers.AnswerError.{AnswerError}
 use Rattle.desk_http.specs.declared.answers.AnswerError.TheVariants as unanswered
 
--- the call that a caller makes by what was heard, at a moment; nobody makes one, and none is made
--- by what was not heard
+-- the call that a caller makes by what was received, at a moment; nobody makes one, and an
+-- unreadable request makes none
 abbrev pub call_of : Moment → Option Caller → Result Request ReceiveError → Option Call
-call_of now None heard = None
+call_of now None content = None
 call_of now (Some who) (Ok request) =
     Some (record { moment = now; caller = who; request = request })
 call_of now (Some who) (Err why) = None
@@ -38,23 +38,23 @@ call_of now (Some who) (Err why) = None
 -- the call that a caller makes of what was received; none of what was refused as it came
 abbrev pub call_by : Moment → Option Caller → ReceivedRequest → Option Call
 call_by now who (Refused refusal) = None
-call_by now who (With key heard) = call_of now who heard
+call_by now who (With key content) = call_of now who content
 
 -- the call that is made of what was received: that of the caller whose key it is
 abbrev pub call_received : OfficeLists → Moment → ReceivedRequest → Option Call
 call_received office now (Refused refusal) = None
-call_received office now (With key heard) = call_of now (caller_with office.keys key) heard
+call_received office now (With key content) = call_of now (caller_with office.keys key) content
 
--- what was not heard is refused; want of memory and a source that failed have no reply
+-- an unreadable request is refused; want of memory and a source that failed have no reply
 abbrev pub unread_reply : ReceiveError → Option Reply
 unread_reply (unreceived.Refused refusal) = Some (reply.Refused refusal)
 unread_reply unreceived.Memory = None
 unread_reply unreceived.Failed = None
 
--- the reply to a caller: to nobody `Key`, whatever was heard, and to a request what is decided
+-- the reply to a caller: to nobody `Key`, whatever was received, and to a request what is decided
 abbrev pub reply_of : OfficeLists → Moment → Option Caller → Result Request ReceiveError
     → Option Reply
-reply_of office now None heard = Some (reply.Refused Key)
+reply_of office now None content = Some (reply.Refused Key)
 reply_of office now (Some who) (Ok request) =
     Some (decided office (record { moment = now; caller = who; request = request })).reply
 reply_of office now (Some who) (Err why) = unread_reply why
@@ -63,7 +63,7 @@ reply_of office now (Some who) (Err why) = unread_reply why
 -- caller whose key it is
 abbrev pub reply_in : OfficeLists → Moment → ReceivedRequest → Option Reply
 reply_in office now (Refused refusal) = Some (reply.Refused refusal)
-reply_in office now (With key heard) = reply_of office now (caller_with office.keys key) heard
+reply_in office now (With key content) = reply_of office now (caller_with office.keys key) content
 
 -- it is that reply, as it is sent
 abbrev pub ShowsReply : Reply → Answered → Type 0
@@ -73,21 +73,21 @@ ShowsReply reply a = (a.status ≡ reply_status reply) × (a.body.items ≡ repl
 abbrev pub IsAnswer : Option Reply → Answered → Type 0
 IsAnswer found a = (reply : Reply) × (found ≡ Some reply) × ShowsReply reply a
 
--- why what was not heard is not answered: its source failed; else memory was refused, for the text
+-- why an unreadable request is not answered: its source failed; else memory was refused, for the text
 -- of its refusal too
 abbrev pub unread_fault : ReceiveError → AnswerError
 unread_fault unreceived.Failed = unanswered.CutOff
 unread_fault why = unanswered.Failure failure.Memory
 
--- why what was heard of a caller is not answered: a request by a failure of the office or of memory
+-- why what was received of a caller is not answered: a request by a failure of the office or of memory
 abbrev pub AnswerMayFail : Result Request ReceiveError → AnswerError → Type 0
 AnswerMayFail (Ok request) why = (failed : Failure) × (why ≡ unanswered.Failure failed)
-AnswerMayFail (Err heard) why = why ≡ unread_fault heard
+AnswerMayFail (Err content) why = why ≡ unread_fault content
 
 -- the key that came is a caller's
 abbrev pub is_of_caller : OfficeLists → ReceivedRequest → Bool
 is_of_caller office (Refused refusal) = false
-is_of_caller office (With key heard) = is_some (caller_with office.keys key)
+is_of_caller office (With key content) = is_some (caller_with office.keys key)
 
 -- the call, if it was answered
 abbrev pub if_ok : {T E : Type 0} → Result T E → Option Call → Option Call

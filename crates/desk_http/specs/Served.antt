@@ -138,9 +138,9 @@ pub record IsAnsweredAt {T O C R W : Type 0} (g : office.Ghosts O) (k : clock.Gh
   pub read : Receives r reader reader' received
   pub moment : Moment
   pub given : k.gives from moment till
-  pub told : Result T ServeFault
-  pub is : result ≡ as_served told
-  pub replies : Replies g h moment received told old new before after
+  pub returned : Result T ServeFault
+  pub is : result ≡ as_served returned
+  pub replies : Replies g h moment received returned old new before after
 
 -- the source failed before the head had come whole, and the clock was not asked
 pub record IsUnread {T C R : Type 0} (r : source.Ghosts R) (result : Result T NowError)

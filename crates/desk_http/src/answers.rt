@@ -73,7 +73,7 @@ fn refused(alloc: Global, refusal: Refusal) -> Result<Answered, AnswerError>
     Ok(shown(alloc, &Reply::Refused(refusal))?)
 }
 
-/// The answer to what was not heard.
+/// The answer to an unreadable request.
 fn answer_unreceived(alloc: Global, why: ReceiveError) -> Result<Answered, AnswerError>
     ensures shown { IfOk result (IsAnswer (unread_reply why)) }
     ensures cause { IfErr result (λ fault. fault ≡ unread_fault why) }
@@ -85,25 +85,25 @@ fn answer_unreceived(alloc: Global, why: ReceiveError) -> Result<Answered, Answe
     }
 }
 
-/// The answer to what was heard of a caller. A request is one call.
+/// The answer to what was received of a caller. A request is one call.
 fn answer_to<O: Office>(
     alloc: Global,
     office: &mut O,
     moment: Moment,
     caller: Caller,
-    heard: Result<Request, ReceiveError>,
+    content: Result<Request, ReceiveError>,
 ) -> Result<Answered, AnswerError>
     ensures done { HoldsOfOffice O.is_reliable O.stands office.old office.new (λ stored. IfOk result
-        (λ a. IsAnswer (reply_of stored moment (Some caller) heard) a
-        × O.stands office.new (office_after stored (call_of moment (Some caller) heard)))) }
-    ensures leaves { LeavesOffice O.Office (if_ok result (call_of moment (Some caller) heard))
+        (λ a. IsAnswer (reply_of stored moment (Some caller) content) a
+        × O.stands office.new (office_after stored (call_of moment (Some caller) content)))) }
+    ensures leaves { LeavesOffice O.Office (if_ok result (call_of moment (Some caller) content))
         office.old office.new }
     ensures leads { LeadsOn O.Office office.old
-        (asked_by (call_of moment (Some caller) heard) result) office.new }
-    ensures cause { IfErr result (AnswerMayFail heard) }
-    ensures cut_off { source_failed heard ≡ true → OnOk result ⊥ }
+        (asked_by (call_of moment (Some caller) content) result) office.new }
+    ensures cause { IfErr result (AnswerMayFail content) }
+    ensures cut_off { source_failed content ≡ true → OnOk result ⊥ }
 {
-    match heard {
+    match content {
         Ok(request) => {
             let call = Call {
                 moment,
@@ -116,25 +116,25 @@ fn answer_to<O: Office>(
     }
 }
 
-/// The answer to what was heard with a key. Whose key that is comes before all that is asked.
+/// The answer to what was received with a key. Whose key that is comes before all that is asked.
 fn answer_with<O: Office>(
     alloc: Global,
     office: &mut O,
     moment: Moment,
     key: SecretKey,
-    heard: Result<Request, ReceiveError>,
+    content: Result<Request, ReceiveError>,
 ) -> Result<Answered, AnswerError>
     ensures done { HoldsOfOffice O.is_reliable O.stands office.old office.new (λ stored. IfOk result
-        (λ a. IsAnswer (reply_in stored moment (With key heard)) a × O.stands office.new
-        (office_after stored (call_received stored moment (With key heard))))) }
-    ensures makes { MakesCall O.Office moment (With key heard) office.old office.new }
+        (λ a. IsAnswer (reply_in stored moment (With key content)) a × O.stands office.new
+        (office_after stored (call_received stored moment (With key content))))) }
+    ensures makes { MakesCall O.Office moment (With key content) office.old office.new }
     ensures unmade { OnErr result (LeavesOffice O.Office None office.old office.new) }
     ensures cause { IfErr result
-        (λ why. why ≡ CutOff → IsCutOff O.Office (With key heard) office.old office.new) }
-    ensures cut_off { source_failed heard ≡ true → IfOk result (ShowsReply (reply.Refused Key)) }
+        (λ why. why ≡ CutOff → IsCutOff O.Office (With key content) office.old office.new) }
+    ensures cut_off { source_failed content ≡ true → IfOk result (ShowsReply (reply.Refused Key)) }
 {
     match office.caller_of(&key)? {
-        Some(caller) => answer_to(alloc, office, moment, caller, heard),
+        Some(caller) => answer_to(alloc, office, moment, caller, content),
         None => refused(alloc, Refusal::Key),
     }
 }
@@ -143,7 +143,7 @@ fn answer_with<O: Office>(
 ///
 /// What was refused as it came is answered so, and the office is not asked. A key that is nobody's
 /// is answered as `Key`, whatever else was received; with a key of the office's list, what was not
-/// heard is answered by its refusal, and a request is a call of that caller at that moment, made as
+/// received is answered by its refusal, and a request is a call of that caller at that moment, made as
 /// `Office::perform` makes it: the reply is made before the call is made to last.
 ///
 /// At most that one call is tried, and it is answered or fails. `makes` says what was asked of the

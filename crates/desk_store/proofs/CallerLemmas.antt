@@ -87,20 +87,20 @@ module _ (key : List ℕ) where
   keys_differ : (rows : List KeyRow) → is_key_list (sort_by caller_before rows) ≡ true → differ_by same_secret rows ≡ true
   keys_differ rows h =
       let sorted = sort_by caller_before rows in
-      let kept = first_so (keep_keys sorted) (ascends_by caller_before sorted) h in
-      sym (differ_by_key-IsPermutation nat_list_cmp_total (λ (row : KeyRow). row.secret) rows sorted (IsPermutation-sort_by caller_before rows)) ∙ second_so _ (differ_by same_secret sorted) kept
+      let preserved = first_so (keep_keys sorted) (ascends_by caller_before sorted) h in
+      sym (differ_by_key-IsPermutation nat_list_cmp_total (λ (row : KeyRow). row.secret) rows sorted (IsPermutation-sort_by caller_before rows)) ∙ second_so _ (differ_by same_secret sorted) preserved
 
   module _ {S : Type 0} (g : store.Ghosts S) (a b : Held S) where
     -- the first of the rows that are found has the caller
-    pub caller_told : (rows : List Row) (found : List KeyRow) (caller : Option Caller) → (IsRead g a b → FindsRecords g a b table.keys test rows) → ChangesNothing g a b → all_meanings table.keys.means rows ≡ Some found
+    pub caller_returned : (rows : List Row) (found : List KeyRow) (caller : Option Caller) → (IsRead g a b → FindsRecords g a b table.keys test rows) → ChangesNothing g a b → all_meanings table.keys.means rows ≡ Some found
         → caller ≡ option_map (λ (row : KeyRow). row.caller) (slice_get found 0) → HoldsOfTables {X = Option Caller} g a b (Ok caller) (IsCallerWith key)
-    caller_told rows found caller finds changes mean is = record {
+    caller_returned rows found caller finds changes mean is = record {
       holds = λ clean office stands.
           let flat = bound (flat_in (state g a).now.trees) office_of_records office stands.holds in
           let own = are_of flat.0 office flat.2 in
           let passing : ◌≡◌ {A = Option (List KeyRow)} (Some found) (Some (filter test flat.0.keys)) = sym mean ∙ (finds (clean, stands.desk)).0 flat.0.keys (keys_held (state g a).now.trees flat.0 flat.1) in
           let same : found ≡ filter test flat.0.keys = cc in
-          let listed : is_key_list (sort_by caller_before flat.0.keys) ≡ true = subst (λ l. is_key_list l ≡ true) (sym own.keys) (office_facts office stands.kept).keys in
+          let listed : is_key_list (sort_by caller_before flat.0.keys) ≡ true = subst (λ l. is_key_list l ≡ true) (sym own.keys) (office_facts office stands.preserved).keys in
           let by_first = ap (λ l. slice_get l 0) same ∙ first_passing flat.0.keys ∙ sym (found_sorted caller_before flat.0.keys (keys_differ flat.0.keys listed)) ∙ ap (find test) own.keys in
           is ∙ ap (option_map (λ (row : KeyRow). row.caller)) by_first;
       same = λ read. (finds read).1;

@@ -21,28 +21,28 @@ use Rattle.desk_store.proofs.DeskReadLemmas.{always, ok_weaker}
 
 module _ {S : Type 0} (g : store.Ghosts S) (a b : Held S) where
   -- what is made of what was told
-  pub told_made : {X Y : Type 0} (x : X) (r : Result Y LoadError) (P : OfficeLists → X → Type 0) (Q : OfficeLists → Y → Type 0) → HoldsOfStoredOffice g a b (Ok x) P
+  pub returned_made : {X Y : Type 0} (x : X) (r : Result Y LoadError) (P : OfficeLists → X → Type 0) (Q : OfficeLists → Y → Type 0) → HoldsOfStoredOffice g a b (Ok x) P
       → ((office : OfficeLists) → IsTrue (is_office office) → P office x → IfOk r (Q office)) → HoldsOfTables g a b r Q
-  told_made x r P Q told next = record {
-    holds = λ clean office stands. next office stands.kept (told.holds (clean, stands.desk) office stands.holds stands.kept);
-    same = λ read. always r (told.same read);
-    changes = told.changes;
+  returned_made x r P Q returned next = record {
+    holds = λ clean office stands. next office stands.preserved (returned.holds (clean, stands.desk) office stands.holds stands.preserved);
+    same = λ read. always r (returned.same read);
+    changes = returned.changes;
   }
 
   -- what is told is so in another way too
-  pub told_also : {X : Type 0} (r : Result X LoadError) (P Q : OfficeLists → X → Type 0) → HoldsOfTables g a b r P
+  pub returned_also : {X : Type 0} (r : Result X LoadError) (P Q : OfficeLists → X → Type 0) → HoldsOfTables g a b r P
       → ((office : OfficeLists) → IsTrue (is_office office) → (x : X) → P office x → Q office x) → HoldsOfTables g a b r Q
-  told_also r P Q told next = record {
-    holds = λ clean office stands. ok_weaker (P office) (Q office) r (next office stands.kept) (told.holds clean office stands);
-    same = told.same;
-    changes = told.changes;
+  returned_also r P Q returned next = record {
+    holds = λ clean office stands. ok_weaker (P office) (Q office) r (next office stands.preserved) (returned.holds clean office stands);
+    same = returned.same;
+    changes = returned.changes;
   }
 
 -- a call that every office refuses so
 pub decided_so : (call : Call) (refusal : Refusal) → ((office : OfficeLists) → decided office call ≡ refused refusal) → (office : OfficeLists) → IsTrue (is_office office) → (answer : Answer Change) → answer ≡ refused refusal → IsDecided call office answer
-decided_so call refusal so office kept answer is = record {
+decided_so call refusal so office preserved answer is = record {
   is = is ∙ sym (so office);
-  kept = subst (λ (a : Answer Change). IsTrue (is_office (applied_if_any office a.change))) (sym is) kept;
+  preserved = subst (λ (a : Answer Change). IsTrue (is_office (applied_if_any office a.change))) (sym is) preserved;
 }
 
 -- the meeting whose polls were read is found in the office

@@ -28,13 +28,13 @@ ok_weaker P Q (Err e) next h = tt
 
 module _ {S : Type 0} (g : store.Ghosts S) (a b : Held S) where
   -- the lists that are read are the office, and so is the book of them
-  pub book_told : {E : Type 0} (Q : E → LoadError → Type 0) (lists : OfficeLists) (made : Result OfficeLists E) (r : Result OfficeLists LoadError) → IsReading g a b is_office (Ok lists) office_in
+  pub book_returned : {E : Type 0} (Q : E → LoadError → Type 0) (lists : OfficeLists) (made : Result OfficeLists E) (r : Result OfficeLists LoadError) → IsReading g a b is_office (Ok lists) office_in
       → IfOk made (λ book. book ≡ office_in_order lists) → MatchResult made (λ x. r ≡ Ok x) (λ e. IsErrAnd r (Q e)) → HoldsOfTables g a b r IsBookOf
-  book_told Q lists made r reading is mapped = record {
+  book_returned Q lists made r reading is mapped = record {
     holds = λ clean office stands.
         let found : ◌≡◌ {A = Option OfficeLists} (Some lists) (Some office) = sym (reading.holds (clean, stands.desk)) ∙ stands.holds in
         let same : lists ≡ office = cc in
-        mapped_ok Q (IsBookOf office) made r mapped (ok_weaker (λ book. book ≡ office_in_order lists) (IsBookOf office) made (λ book ordered. ordered ∙ ap office_in_order same ∙ office_ordered office stands.kept) is);
+        mapped_ok Q (IsBookOf office) made r mapped (ok_weaker (λ book. book ≡ office_in_order lists) (IsBookOf office) made (λ book ordered. ordered ∙ ap office_in_order same ∙ office_ordered office stands.preserved) is);
     same = λ read. always r (reading.same read);
     changes = reading.changes;
   }
@@ -58,14 +58,14 @@ error_of P (Err e) failed h = (e, h)
 
 -- ---- what is told of the office that the tables hold
 
-if_told : {X : Type 0} (P : X → Type 0) (r : Result X LoadError) → HoldsOrFails P r → IfOk r P
-if_told P (Ok x) h = h
-if_told P (Err e) h = tt
+if_returned : {X : Type 0} (P : X → Type 0) (r : Result X LoadError) → HoldsOrFails P r → IfOk r P
+if_returned P (Ok x) h = h
+if_returned P (Err e) h = tt
 
 -- is told of the office for which they stand
-pub told_office : {S X : Type 0} (g : store.Ghosts S) (a b : Held S) (r : Result X LoadError) (P : OfficeLists → X → Type 0) → HoldsOfStoredOffice g a b r P → HoldsOfTables g a b r P
-told_office g a b r P told = record {
-  holds = λ clean office stands. if_told (P office) r (told.holds (clean, stands.desk) office stands.holds stands.kept);
-  same = told.same;
-  changes = told.changes;
+pub returned_office : {S X : Type 0} (g : store.Ghosts S) (a b : Held S) (r : Result X LoadError) (P : OfficeLists → X → Type 0) → HoldsOfStoredOffice g a b r P → HoldsOfTables g a b r P
+returned_office g a b r P returned = record {
+  holds = λ clean office stands. if_returned (P office) r (returned.holds (clean, stands.desk) office stands.holds stands.preserved);
+  same = returned.same;
+  changes = returned.changes;
 }

@@ -29,11 +29,11 @@ use Rattle.desk_store.proofs.KeepingLemmas.{stands_same}
 pub record IsWithin (old new : State) : Type 0 where
   pub crash : Survives old new (λ _. ⊥)
   pub was_open : WasOpen old new
-  pub kept : HasCleanDisk new → (office : OfficeLists) → Stands old office → KeepsCommit old new
+  pub preserved : HasCleanDisk new → (office : OfficeLists) → Stands old office → KeepsCommit old new
 
 -- what is told in a transaction is told within it
 pub holds_within : {S X : Type 0} (g : store.Ghosts S) (first b : Held S) (r : Result X LoadError) (IsSo : OfficeLists → X → Type 0) → HoldsOfTables g first b r IsSo → IsWithin (state g first) (state g b)
-holds_within g first b r IsSo told = record { crash = told.changes.crash; was_open = told.changes.was_open; kept = λ clean office stands. told.changes.kept (clean, stands.desk) }
+holds_within g first b r IsSo returned = record { crash = returned.changes.crash; was_open = returned.changes.was_open; preserved = λ clean office stands. returned.changes.preserved (clean, stands.desk) }
 
 -- a transaction is committed
 abbrev pub IsOver : State → State → Type 0
@@ -93,9 +93,9 @@ module _ {S : Type 0} (g : store.Ghosts S) (a first b new : Held S) (begun : fir
     counts = over_all.counts;
     stands = λ clean is_open office stands.
         let mid_open = (undone clean).was_open is_open in
-        let kept = within.kept (mid_clean clean) office (stands_begun office stands) in
+        let preserved = within.preserved (mid_clean clean) office (stands_begun office stands) in
         let committed_is = ap (λ (it : Held S). (state g it).committed) begun in
-        stands_same (state g a) (state g new) office (((undone clean).undone is_open).0 ∙ kept.committed mid_open ∙ committed_is ∙ sym (settled (desk_open (kept.was_open mid_open)))) stands;
+        stands_same (state g a) (state g new) office (((undone clean).undone is_open).0 ∙ preserved.committed mid_open ∙ committed_is ∙ sym (settled (desk_open (preserved.was_open mid_open)))) stands;
   }
 
   -- the commit fails, of a transaction that has not ended
@@ -107,10 +107,10 @@ module _ {S : Type 0} (g : store.Ghosts S) (a first b new : Held S) (begun : fir
 
     undone : HasCleanDisk (state g new) → IsTrue (state g new).is_open → (office : OfficeLists) → Stands (state g a) office → {e : Error} → FailsToCommit (state g b) (state g new) e → Stands (state g new) office
     undone clean is_open office stands (inl h) =
-        let kept = within.kept (mid_clean clean) office (stands_begun office stands) in
+        let preserved = within.preserved (mid_clean clean) office (stands_begun office stands) in
         let mid_open = h.3.was_open is_open in
         let committed_is = ap (λ (it : Held S). (state g it).committed) begun in
-        stands_same (state g a) (state g new) office ((h.3.undone is_open).0 ∙ kept.committed mid_open ∙ committed_is ∙ sym (settled (desk_open (kept.was_open mid_open)))) stands
+        stands_same (state g a) (state g new) office ((h.3.undone is_open).0 ∙ preserved.committed mid_open ∙ committed_is ∙ sym (settled (desk_open (preserved.was_open mid_open)))) stands
     undone clean is_open office stands (inr h) = absurd (true≢false (sym (inside (mid_clean clean) office (stands_begun office stands)) ∙ h.1))
 
     pub not_committed : LeavesDesk g None a new

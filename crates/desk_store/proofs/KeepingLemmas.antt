@@ -17,5 +17,5 @@ stands_same old new office same h = record {
   };
   version = ap (λ (d : Database). records_in desk d.trees) same ∙ h.version;
   holds = ap (λ (d : Database). office_in d.trees) same ∙ h.holds;
-  kept = h.kept;
+  preserved = h.preserved;
 }

@@ -26,15 +26,15 @@ decided_makes law office call None is before later = before
 decided_makes law office call (Some change) is before later = law office call change is before later
 
 -- where the office is not read, or nothing is decided, nothing is told of it
-pub failed_told : {S X Y : Type 0} (g : store.Ghosts S) (a b : Held S) (IsSo : OfficeLists → X → Type 0) (IsThat : OfficeLists → Y → Type 0) (old : Result X LoadError) (r : Result Y LoadError) → IsErr r → HoldsOfTables g a b old IsSo → HoldsOfTables g a b r IsThat
-failed_told g a b IsSo IsThat old (Ok y) bad read = absurd cc
-failed_told g a b IsSo IsThat old (Err e) bad read = record { holds = λ clean office stands. tt; same = λ done. tt; changes = read.changes }
+pub failed_returned : {S X Y : Type 0} (g : store.Ghosts S) (a b : Held S) (IsSo : OfficeLists → X → Type 0) (IsThat : OfficeLists → Y → Type 0) (old : Result X LoadError) (r : Result Y LoadError) → IsErr r → HoldsOfTables g a b old IsSo → HoldsOfTables g a b r IsThat
+failed_returned g a b IsSo IsThat old (Ok y) bad read = absurd cc
+failed_returned g a b IsSo IsThat old (Err e) bad read = record { holds = λ clean office stands. tt; same = λ done. tt; changes = read.changes }
 
-module _ {S : Type 0} (g : store.Ghosts S) (a b c : Held S) (call : Call) (answer : Answer Change) (told : HoldsOfTables g a b (Ok answer) (IsDecided call)) where
+module _ {S : Type 0} (g : store.Ghosts S) (a b c : Held S) (call : Call) (answer : Answer Change) (returned : HoldsOfTables g a b (Ok answer) (IsDecided call)) where
   -- while a call is decided, the tables stay the office that they are
   holds : HasCleanDisk (state g b) → IsTrue (state g a).in_transaction → IsDatabase (state g a).now → (office : OfficeLists) → Stands (state g a) office → StandsIn office (state g b)
   holds clean inside sound office stands =
-      let same = told.same (clean, stands.desk) in
+      let same = returned.same (clean, stands.desk) in
       let there = stands_same (state g a) (state g b) office same.0.now_is stands in
       record { desk = there.desk; version = there.version; inside = same.0.mode ∙ inside; sound = subst IsDatabase (sym same.0.now_is) sound; means = there.holds }
 
@@ -46,37 +46,37 @@ module _ {S : Type 0} (g : store.Ghosts S) (a b c : Held S) (call : Call) (answe
     pub step_keeps : HasCleanDisk (state g c) → (office : OfficeLists) → Stands (state g a) office → KeepsCommit (state g a) (state g c)
     step_keeps clean office stands =
         let before = early clean in
-        keeps_then (state g a) (state g b) (state g c) (told.changes.kept (before, stands.desk)) (writes.kept clean)
+        keeps_then (state g a) (state g b) (state g c) (returned.changes.preserved (before, stands.desk)) (writes.preserved clean)
 
     -- and no store is opened
     pub step_opened : WasOpen (state g a) (state g c)
-    step_opened clean is_open = told.changes.was_open (early clean) ((writes.kept clean).was_open is_open)
+    step_opened clean is_open = returned.changes.was_open (early clean) ((writes.preserved clean).was_open is_open)
 
     -- where nothing is decided to change, nothing is changed
     pub step_still : HasCleanDisk (state g c) → (office : OfficeLists) → Stands (state g a) office → (decided office call).change ≡ None → IsUnchanged (state g a) (state g c)
     step_still clean office stands none =
         let before = early clean in
-        let is = told.holds before office stands in
+        let is = returned.holds before office stands in
         let same = writes.still (ap (λ (it : Answer Change). it.change) is.is ∙ none) in
-        subst (λ (h : Held S). IsUnchanged (state g a) (state g h)) (sym same) (told.same (before, stands.desk))
+        subst (λ (h : Held S). IsUnchanged (state g a) (state g h)) (sym same) (returned.same (before, stands.desk))
 
   -- where it is written, the tables are the office after the step
   pub step_holds : {T E : Type 0} (x : T) → DecidedChangesCanBeMade → WritesIfAny {T = T} {E = E} g b c (Ok x) answer.change → HasCleanDisk (state g c) → IsTrue (state g a).in_transaction → IsDatabase (state g a).now → (office : OfficeLists) → Stands (state g a) office
       → (Stands (state g c) (stepped office call) × IsDatabase (state g c).now) × IsTrue (state g c).in_transaction × ((decided office call).reply ≡ answer.reply) × DeclaresNothing (state g a) (state g c)
   step_holds x law writes clean inside sound office stands =
       let before = early (Ok x) writes clean in
-      let is = told.holds before office stands in
+      let is = returned.holds before office stands in
       let change = ap (λ (it : Answer Change). it.change) is.is in
-      let written = writes.written clean office (holds before inside sound office stands) (decided_makes law office call answer.change (sym change) stands.kept is.kept) in
+      let written = writes.written clean office (holds before inside sound office stands) (decided_makes law office call answer.change (sym change) stands.preserved is.preserved) in
       let there = written.0 in
-      let same = told.same (before, stands.desk) in
+      let same = returned.same (before, stands.desk) in
       let left = ap (applied_if_any office) change in (
         (
           record {
             desk = there.desk;
             version = there.version;
             holds = there.means ∙ ap (λ (o : OfficeLists). Some o) left;
-            kept = subst (λ (o : OfficeLists). IsTrue (is_office o)) left is.kept;
+            preserved = subst (λ (o : OfficeLists). IsTrue (is_office o)) left is.preserved;
           },
           there.sound,
         ),

@@ -57,7 +57,7 @@ IsCallerWith key office caller = caller ≡ caller_with office.keys key
 
 -- it is the public record of a meeting
 abbrev pub IsPublic : MeetingName → OfficeLists → PublicRecord → Type 0
-IsPublic meeting office kept = kept ≡ public_of office meeting
+IsPublic meeting office preserved = preserved ≡ public_of office meeting
 
 -- they are the own things of a party in a meeting at a moment
 abbrev pub IsOwnView : Party → MeetingName → Moment → OfficeLists → OwnView → Type 0
@@ -66,7 +66,7 @@ IsOwnView party meeting now office own = own ≡ own_of office party meeting now
 -- it is what is decided of a call, and leaves the lists of an office
 pub record IsDecided (call : Call) (office : OfficeLists) (answer : Answer Change) : Type 0 where
   pub is : answer ≡ decided office call
-  pub kept : IsTrue (is_office (applied_if_any office answer.change))
+  pub preserved : IsTrue (is_office (applied_if_any office answer.change))
 
 -- at whatever moment the office asks it of the whole desk, it is decided so
 abbrev pub IsDecidedAlways : DeskRequest → OfficeLists → Answer Change → Type 0
@@ -85,5 +85,5 @@ pub record WritesIfAny {S T E : Type 0} (g : store.Ghosts S) (old new : Held S)
       → OnOk result (StandsIn (applied_if_any office change) (state g new)
       × DeclaresNothing (state g old) (state g new))
   pub still : change ≡ None → new ≡ old
-  pub kept : HasCleanDisk (state g new) → KeepsCommit (state g old) (state g new)
+  pub preserved : HasCleanDisk (state g new) → KeepsCommit (state g old) (state g new)
   pub crash : Survives (state g old) (state g new) (λ _. ⊥)

@@ -1,23 +1,23 @@
 //! What is decided of a call, from those rows of the tables that its answer reads.
 ghost use Rattle.std.specs.Prelude.{◌≡◌};
 ghost use Rattle.desk_words.specs.Rulings as ruling;
-ghost use Rattle.desk_words.specs.declared.caller.Caller.TheVariants as caller;
 ghost use Rattle.desk_words.specs.declared.request.DeskRequest.TheVariants as whole;
 ghost use Rattle.desk_store.specs.TableReads.{IsDecided, IsDecidedAlways, HoldsOfTables};
 ghost use Rattle.meeting_core.specs.Decisions.{office_call, party_call};
 
 use crate::reading::fault_of_book;
 use desk_words::{
-    Answer, Call, Caller, Change, DayList, DeskRequest, KeyRows, MeetingId, Moment, NewMeeting,
-    OfficeRequest, Party, PartyRequest, Refusal, Request, refuse,
+    Answer, Call, Change, DayList, DeskRequest, KeyRows, MeetingId, Moment, NewMeeting,
+    OfficeRequest, Party, PartyRequest, Refusal, refuse,
 };
 use meeting_core::{
-    decide_call, decide_closed, decide_from_rows, decide_in_meeting, decide_keys, go_on_in_meeting,
+    Decides, decide_by, decide_call, decide_closed, decide_from_rows, decide_in_meeting,
+    decide_keys, go_on_in_meeting,
 };
 use sql_desk_tables::desk;
 use sql_load_meeting::{OfficeReads, read_closed, read_count, read_keys, read_polls, read_rest};
 use sql_load_office::LoadError;
-use sql_load_party::read_asked;
+use sql_load_party::read_own_rows_for;
 use sql_load_public::read_public_for;
 use sqlite::{Alter, Transaction};
 use std::alloc::Global;
@@ -37,7 +37,7 @@ fn decide_for_party<S: Alter>(
         (IsDecided (party_call party meeting now asked.now)) }
 {
     let public = read_public_for(tx, alloc, meeting, asked)?;
-    let rows = read_asked(tx, alloc, meeting, party, asked)?;
+    let rows = read_own_rows_for(tx, alloc, meeting, party, asked)?;
     let answer = decide_from_rows(alloc, meeting, &public.record(), rows, now, asked)?;
     Ok(answer)
 }
@@ -143,41 +143,45 @@ fn refused<S: Alter>(
     Ok(refuse(refusal))
 }
 
-/// What is decided of a call of the office.
-fn decide_office_call<S: Alter>(
-    tx: &mut Transaction<'_, S>,
+/// A transaction over the tables, from whose rows calls are decided.
+#[derive(Drop)]
+struct InTables<'t, 'c, S: Alter> {
     alloc: Global,
-    now: Moment,
-    asked: &Request,
-) -> Result<Answer<Change>, LoadError>
-    ensures same_reference { tx.new.conn.ghost_name ≡ tx.old.conn.ghost_name }
-    ensures holds { HoldsOfTables S.Store tx.old.conn.now tx.new.conn.now result
-        (IsDecided (record { moment = now; caller = caller.Office; request = asked.now })) }
-{
-    match asked {
-        Request::Desk(asked) => decide_for_desk(tx, alloc, asked),
-        Request::Office { meeting, asked } => decide_for_office(tx, alloc, now, *meeting, asked),
-        Request::Party { .. } => refused(tx, Refusal::PartyOnly),
-    }
+    tx: &'t mut Transaction<'c, S>,
 }
 
-/// What is decided of a call of a party.
-fn decide_party_call<S: Alter>(
-    tx: &mut Transaction<'_, S>,
-    alloc: Global,
-    now: Moment,
-    party: Party,
-    asked: &Request,
-) -> Result<Answer<Change>, LoadError>
-    ensures same_reference { tx.new.conn.ghost_name ≡ tx.old.conn.ghost_name }
-    ensures holds { HoldsOfTables S.Store tx.old.conn.now tx.new.conn.now result
-        (IsDecided (record { moment = now; caller = caller.Party party; request = asked.now })) }
-{
-    match asked {
-        Request::Party { meeting, asked } => {
-            decide_for_party(tx, alloc, now, party, *meeting, asked)
-        }
-        Request::Desk(_) | Request::Office { .. } => refused(tx, Refusal::OfficeOnly),
+impl<S: Alter> Decides for InTables<'_, '_, S> {
+    type Error = LoadError;
+
+    ghost decides = { λ a b result call. (b.tx.ghost_name ≡ a.tx.ghost_name)
+        × (b.tx.now.conn.ghost_name ≡ a.tx.now.conn.ghost_name)
+        × HoldsOfTables S.Store a.tx.now.conn.now b.tx.now.conn.now result (IsDecided call) };
+
+    fn for_desk(&mut self, _now: Moment, asked: &DeskRequest) -> Result<Answer<Change>, LoadError> {
+        decide_for_desk(self.tx, self.alloc, asked)
+    }
+
+    fn for_office(
+        &mut self,
+        meeting: MeetingId,
+        now: Moment,
+        asked: &OfficeRequest,
+    ) -> Result<Answer<Change>, LoadError> {
+        decide_for_office(self.tx, self.alloc, now, meeting, asked)
+    }
+
+    fn for_party(
+        &mut self,
+        party: Party,
+        meeting: MeetingId,
+        now: Moment,
+        asked: &PartyRequest,
+    ) -> Result<Answer<Change>, LoadError> {
+        decide_for_party(self.tx, self.alloc, now, party, meeting, asked)
+    }
+
+    fn refuse(&mut self, refusal: Refusal) -> Result<Answer<Change>, LoadError> {
+        refused(self.tx, refusal)
     }
 }
 
@@ -191,8 +195,5 @@ pub(crate) fn decide<S: Alter>(
     ensures same_reference { tx.new.conn.ghost_name ≡ tx.old.conn.ghost_name }
     ensures holds { HoldsOfTables S.Store tx.old.conn.now tx.new.conn.now result (IsDecided call.now) }
 {
-    match call.caller {
-        Caller::Office => decide_office_call(tx, alloc, call.moment, &call.request),
-        Caller::Party(party) => decide_party_call(tx, alloc, call.moment, party, &call.request),
-    }
+    decide_by(&mut InTables { alloc, tx }, call)
 }

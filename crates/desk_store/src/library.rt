@@ -96,7 +96,7 @@ impl<S: Alter + Drop> Desk<S> {
         ensures known { IfOk result (λ desk. WereKnown S.Store conn desk) }
         ensures is_open { IfOk result (λ desk. StaysOpen S.Store desk) }
         ensures cause { IfErr result (λ e. IsWhyUnopened S.Store conn e.0 e.1) }
-        ensures kept { IfErr result (λ e. HandsBack S.Store (state S.Store conn).now.trees e.1) }
+        ensures preserved { IfErr result (λ e. HandsBack S.Store (state S.Store conn).now.trees e.1) }
         ensures ended { IfErr result (λ e. conn.in_transaction ≡ false → IsInNone e.1) }
         ensures settled { IfOk result (λ desk. IsSettled S.Store desk) }
         ensures crash { IfErr result (λ e. LeavesAtMostMoved S.Store (state S.Store conn) e.1) }

@@ -73,7 +73,7 @@ fn step<S: Alter, T: Drop, F: FnOnce(&Reply) -> Result<T, AllocError>>(
     ensures declares { HoldsOfDeskInTransaction S.Store tx.old.conn.now tx.new.conn.now
         (λ _. OnOk result (DeclaresNothing (state S.Store tx.old.conn.now)
         (state S.Store tx.new.conn.now))) }
-    ensures kept { HoldsOfDesk S.Store tx.old.conn.now tx.new.conn.now
+    ensures preserved { HoldsOfDesk S.Store tx.old.conn.now tx.new.conn.now
         (λ _. KeepsCommit (state S.Store tx.old.conn.now) (state S.Store tx.new.conn.now)) }
     ensures was_open { WasOpen (state S.Store tx.old.conn.now) (state S.Store tx.new.conn.now) }
     ensures still { HoldsOfDesk S.Store tx.old.conn.now tx.new.conn.now (λ office.

@@ -62,7 +62,7 @@ impl<S: Alter> Desk<S> {
     /// other meeting is read.
     pub fn read_public(&mut self, meeting: MeetingId) -> Result<OwnedRecord, Failure>
         ensures held { HoldsOfDesk S.Store self.old self.new
-            (λ office. IfOk result (λ kept. kept ≡ public_of office meeting)) }
+            (λ office. IfOk result (λ found. found ≡ public_of office meeting)) }
         ensures leaves { LeavesDesk S.Store None self.old self.new }
         ensures ended { self.new.in_transaction ≡ false }
         ensures stays_open { OnDone S.Store self.new result

@@ -26,19 +26,19 @@ callers-permutation = differ_by_key-IsPermutation (options_total nat_list_cmp_to
 
 -- keys that are kept are a key list once they stand in the order of callers
 pub is_key_list-sorted : (rows sorted : List KeyRow) → IsPermutation rows sorted → keep_keys rows ≡ true → ascends_by caller_before sorted ≡ true → is_key_list sorted ≡ true
-is_key_list-sorted rows sorted moved kept up = both_true (keep_keys-permutation rows sorted moved kept) up
+is_key_list-sorted rows sorted moved preserved up = both_true (keep_keys-permutation rows sorted moved preserved) up
 
 -- and they are the list of these keys
 pub key_list_of-sorted : (rows sorted : List KeyRow) → IsPermutation rows sorted → keep_keys rows ≡ true → ascends_by caller_before sorted ≡ true → key_list_of rows ≡ Some sorted
-key_list_of-sorted rows sorted moved kept up =
+key_list_of-sorted rows sorted moved preserved up =
     let callers : differ_by same_caller rows ≡ true =
     sym (callers-permutation rows sorted moved) ∙ differs-from_ascends_by (options_total nat_list_cmp_total) (λ (row : KeyRow). party_in row.caller) sorted up in
-    let keys : are_keys rows ≡ true = both_true kept callers in
+    let keys : are_keys rows ≡ true = both_true preserved callers in
     ap (λ b. cond b (Some (sort_by caller_before rows)) None) keys
     ∙ ap (λ r. Some r) (sym (sort_by-ascending (options_total nat_list_cmp_total) (λ (row : KeyRow). party_in row.caller) rows sorted moved up))
 
 -- where the order shows that a caller stands twice, there is no list of these keys
 pub key_list_of-repeated : (rows moved sorted : List KeyRow) → IsPermutation rows moved → keep_keys rows ≡ true → ascends_by caller_before sorted ≡ differ_by same_caller moved → ascends_by caller_before sorted ≡ false → key_list_of rows ≡ None
-key_list_of-repeated rows moved sorted same kept tells falls =
-    let callers : differ_by same_caller rows ≡ false = sym (callers-permutation rows moved same) ∙ sym tells ∙ falls in
-    ap (λ b. cond b (Some (sort_by caller_before rows)) None) (ap (λ b. b && differ_by same_caller rows) kept ∙ callers)
+key_list_of-repeated rows moved sorted same preserved decides falls =
+    let callers : differ_by same_caller rows ≡ false = sym (callers-permutation rows moved same) ∙ sym decides ∙ falls in
+    ap (λ b. cond b (Some (sort_by caller_before rows)) None) (ap (λ b. b && differ_by same_caller rows) preserved ∙ callers)

@@ -35,8 +35,8 @@ differ_by-unique_keys (x ∷ xs) = by (is_member nat_eq xs x) refl (differ_by-un
     by true m r = r
     by false m r = and_from _ _ (ap not (is_member-unique_keys xs x ∙ m)) r
 
-member_tells : (xs : List ℕ) (x : ℕ) → (is_member nat_eq xs x ≡ true) ↔ Contains xs x
-member_tells xs x = is_member-Decides Decides-eqb xs x
+member_decides : (xs : List ℕ) (x : ℕ) → (is_member nat_eq xs x ≡ true) ↔ Contains xs x
+member_decides xs x = is_member-Decides Decides-eqb xs x
 
 -- ---- each once and in order
 
@@ -50,8 +50,8 @@ Contains-each_once : (days : List Day) (day : Day) → Contains (each_once days)
 unfolding each_once
 Contains-each_once days day =
     let moved = IsPermutation-sort_by day_before (unique_keys nat_eq days) in (
-      λ has. (member_tells days day).0 (sym (is_member-unique_keys days day) ∙ (member_tells (unique_keys nat_eq days) day).1 (Contains-permutation _ _ day (IsPermutation-sym _ _ moved) has)),
-      λ has. Contains-permutation _ _ day moved ((member_tells (unique_keys nat_eq days) day).0 (is_member-unique_keys days day ∙ (member_tells days day).1 has)),
+      λ has. (member_decides days day).0 (sym (is_member-unique_keys days day) ∙ (member_decides (unique_keys nat_eq days) day).1 (Contains-permutation _ _ day (IsPermutation-sym _ _ moved) has)),
+      λ has. Contains-permutation _ _ day moved ((member_decides (unique_keys nat_eq days) day).0 (is_member-unique_keys days day ∙ (member_decides days day).1 has)),
     )
 
 -- a list in order that has the same days is the list of the days

@@ -62,7 +62,7 @@ impl Resolutions {
     /// The same resolutions again. The error is want of memory.
     pub fn copy(&self) -> Result<Resolutions, AllocError>
         ensures value { IfOk result (λ r. r ≡ self.now) }
-        ensures kept { IsTrue (are_resolutions self.now) }
+        ensures valid { IsTrue (are_resolutions self.now) }
     {
         // This opens the value, so that what its type keeps is known.
         let _ = &self.resolutions;
@@ -72,7 +72,7 @@ impl Resolutions {
     /// The resolutions, in the order of their numbers.
     pub fn as_slice(&self) -> &[Resolution]
         ensures value { result.now ≡ self.now }
-        ensures kept { IsTrue (are_resolutions self.now) }
+        ensures valid { IsTrue (are_resolutions self.now) }
     {
         self.resolutions.as_slice()
     }
@@ -125,7 +125,7 @@ impl DayList {
     pub fn new(days: Vec<Day>) -> Result<DayList, ListFault>
         ensures value { IfOk result (λ r. day_list_of days.items ≡ Some r) }
         ensures days { IfOk result (λ r. (day : ℕ) → Contains r day ↔ Contains days.items day) }
-        ensures kept { IfOk result (λ r. IsTrue (is_day_list r)) }
+        ensures valid { IfOk result (λ r. IsTrue (is_day_list r)) }
         ensures limit { (result ≡ Err Limit) ↔ (MOST_CLOSED_DAYS < day_count days.items) }
         ensures no_memory { (result ≡ Err Memory) → ⊥ }
     {
@@ -148,7 +148,7 @@ impl DayList {
     /// The same days again. The error is want of memory.
     pub fn copy(&self) -> Result<DayList, AllocError>
         ensures value { IfOk result (λ r. r ≡ self.now) }
-        ensures kept { IsTrue (is_day_list self.now) }
+        ensures valid { IsTrue (is_day_list self.now) }
     {
         let days = self.days.clone()?;
         Ok(DayList { days })
@@ -157,7 +157,7 @@ impl DayList {
     /// The days, in order.
     pub fn as_slice(&self) -> &[Day]
         ensures value { result.now ≡ self.now }
-        ensures kept { IsTrue (is_day_list self.now) }
+        ensures valid { IsTrue (is_day_list self.now) }
     {
         self.days.as_slice()
     }
@@ -180,7 +180,7 @@ impl KeyRows {
     pub fn new(rows: Vec<KeyRow>) -> Result<KeyRows, ListFault>
         ensures value { IfOk result (λ r. key_list_of rows.items ≡ Some r) }
         ensures rows { IfOk result (λ r. IsPermutation rows.items r) }
-        ensures kept { IfOk result (λ r. IsTrue (is_key_list r)) }
+        ensures valid { IfOk result (λ r. IsTrue (is_key_list r)) }
         ensures limit { (result ≡ Err Limit) ↔ (key_list_of rows.items ≡ None) }
         ensures no_memory { (result ≡ Err Memory) → ⊥ }
     {
@@ -207,7 +207,7 @@ impl KeyRows {
     /// The same keys again. The error is want of memory.
     pub fn copy(&self) -> Result<KeyRows, AllocError>
         ensures value { IfOk result (λ r. r ≡ self.now) }
-        ensures kept { IsTrue (is_key_list self.now) }
+        ensures valid { IsTrue (is_key_list self.now) }
     {
         let rows = self.rows.clone()?;
         Ok(KeyRows { rows })
@@ -216,7 +216,7 @@ impl KeyRows {
     /// The keys, in the order of callers.
     pub fn as_slice(&self) -> &[KeyRow]
         ensures value { result.now ≡ self.now }
-        ensures kept { IsTrue (is_key_list self.now) }
+        ensures valid { IsTrue (is_key_list self.now) }
     {
         self.rows.as_slice()
     }

@@ -74,7 +74,7 @@ impl Register {
     pub fn new(rows: Vec<RegisterRow>) -> Result<Register, ListFault>
         ensures value { IfOk result (λ r. register_of rows.items ≡ Some r) }
         ensures rows { IfOk result (λ r. IsPermutation rows.items r) }
-        ensures kept { IfOk result (λ r. IsTrue (is_register r)) }
+        ensures valid { IfOk result (λ r. IsTrue (is_register r)) }
         ensures limit { (result ≡ Err Limit) ↔ (register_of rows.items ≡ None) }
         ensures no_memory { (result ≡ Err Memory) → ⊥ }
     {
@@ -92,7 +92,7 @@ impl Register {
     /// The rows, in the order of members.
     pub fn rows(&self) -> &[RegisterRow]
         ensures value { result.now ≡ self.now }
-        ensures kept { IsTrue (is_register self.now) }
+        ensures valid { IsTrue (is_register self.now) }
     {
         self.rows.as_slice()
     }
@@ -100,7 +100,7 @@ impl Register {
     /// The same register again. The error is want of memory.
     pub fn copy(&self) -> Result<Register, AllocError>
         ensures value { IfOk result (λ r. r ≡ self.now) }
-        ensures kept { IsTrue (is_register self.now) }
+        ensures valid { IsTrue (is_register self.now) }
     {
         // This opens the value, so that what its type keeps is known.
         let _ = &self.rows;
@@ -110,7 +110,7 @@ impl Register {
     /// The rows as a list.
     pub fn into_listing(self) -> Listing<RegisterRow>
         ensures value { result ≡ self }
-        ensures kept { IsTrue (is_register self) }
+        ensures valid { IsTrue (is_register self) }
     {
         Listing::from_vec(self.rows)
     }

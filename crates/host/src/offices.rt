@@ -72,8 +72,8 @@ pub trait OfficeFiles {
     /// What a file that is closed may hold is opened as what a crash may leave of it.
     ghost closes_held: { (old new : Self) (name : List ℕ) (file : Self.File) (left : Self.Left)
         → closes old name file new → is_reliable new → may_hold new name left
-        → (kept : Self.File.Office.Left) × Self.File.Office.may_leave file kept
-        × ((office : OfficeLists) → Self.File.Office.opens_as kept office
+        → (crashed : Self.File.Office.Left) × Self.File.Office.may_leave file crashed
+        × ((office : OfficeLists) → Self.File.Office.opens_as crashed office
         → opens_as left office) };
 
     /// The devices of a file that is closed returned what was written.

@@ -67,7 +67,7 @@ module _ {O D : Type 0} (o : offices.Ghosts O D) (d : office.Ghosts D)
     → (was : o.Left) × o.may_hold old name was × ((office : OfficeLists) → o.opens_as was office → o.opens_as left office))
     (closes_held : (old new : O) (name : List ℕ) (file : D) (left : o.Left)
     → o.closes old name file new → o.is_reliable new → o.may_hold new name left
-    → (kept : d.Left) × d.may_leave file kept × ((office : OfficeLists) → d.opens_as kept office → o.opens_as left office))
+    → (preserved : d.Left) × d.may_leave file preserved × ((office : OfficeLists) → d.opens_as preserved office → o.opens_as left office))
     (closes_reliable : (old new : O) (name : List ℕ) (file : D) → o.closes old name file new → o.is_reliable new → d.is_reliable file) where
   -- one that is refused stores what it stored
   refused : (old new : O) (name : List ℕ) (end : Ending) (held : OfficeLists) → o.refuses old name end new → o.is_reliable new → Stores o old name held → Stores o new name held
@@ -194,7 +194,7 @@ module _ {O D : Type 0} (o : offices.Ghosts O D) (d : office.Ghosts D)
 
       module _ {P L R S W : Type 0} (p : ports.Ghosts P L R S) (l : listener.Ghosts L R S) (r : source.Ghosts R) (s : sink.Ghosts S) (w : sink.Ghosts W) (loops : LoopsAreRuns l r s c d) where
         -- the loop, however it ended
-        by_loop : (bound served : L) (made asked : C) → k.makes clocks zone made clocks' → (told : Result (Unit {0}) LoopFault) → ServesTurns l r s c d requests told (standing bound made opened) (standing served asked closed)
+        by_loop : (bound served : L) (made asked : C) → k.makes clocks zone made clocks' → (reported : Result (Unit {0}) LoopFault) → ServesTurns l r s c d requests reported (standing bound made opened) (standing served asked closed)
             → StoresRun o k c file requests zone held offices' clocks clocks'
         by_loop bound served made asked makes (Ok x) turns = ran made asked makes (loops requests (Ok x) (standing bound made opened) (standing served asked closed) turns)
         by_loop bound served made asked makes (Err loop.Socket) turns = ran made asked makes (loops requests (Err loop.Socket) (standing bound made opened) (standing served asked closed) turns)
@@ -203,7 +203,7 @@ module _ {O D : Type 0} (o : offices.Ghosts O D) (d : office.Ghosts D)
             ran made it.0 makes it.1
 
         on_port : (bound : L) (output output' : W) (end : Ending) → ServesOn d l r s k c w requests zone bound clocks clocks' output output' opened closed end → StoresRun o k c file requests zone held offices' clocks clocks'
-        on_port bound output output' end (inl (says, (served, made, asked, makes, (told, is, turns)))) = by_loop bound served made asked makes told turns
+        on_port bound output output' end (inl (says, (served, made, asked, makes, (reported, is, turns)))) = by_loop bound served made asked makes reported turns
         on_port bound output output' end (inr unsaid) = unserved unsaid.3
 
         at_port : (port : ℕ) (ports ports' : P) (output output' : W) (end : Ending) → ServesAt d p l r s k c w port requests zone ports ports' clocks clocks' output output' opened closed end → StoresRun o k c file requests zone held offices' clocks clocks'

@@ -31,7 +31,7 @@ use Rattle.line_reader.specs.NextLine.{longest_input}
 use Rattle.party_views.specs.Views.{public_of}
 use Rattle.replay.specs.ReplaySteps.{HasEndedFor}
 use Rattle.replay.specs.declared.script.ReplayFault.{ReplayFault}
-use Rattle.host_run.specs.Telling.{Says, SaysPart, listening}
+use Rattle.host_run.specs.Reporting.{Says, SaysPart, listening}
 use Rattle.host_run.specs.Opening.{OnDesk, OnFile, OnPort, AtMoment}
 use Rattle.host_run.specs.declared.loading.Load.{Load}
 use Rattle.host_run.specs.declared.loading.Load.TheVariants as load

@@ -3,4 +3,4 @@ pub mod Commands
 pub mod Runs
 pub mod ServedStored
 pub mod Stored
-pub mod Telling
+pub mod Reporting

@@ -18,7 +18,7 @@ use Rattle.cli_args.specs.declared.plan.Plan.{Plan}
 use Rattle.cli_args.specs.declared.plan.Plan.TheVariants as plan
 use Rattle.cli_exit.specs.declared.words.WordsFault.{WordsFault}
 use Rattle.host_run.specs.Commands.{LoadsFile, PrintsResults, Replays, ServesFile}
-use Rattle.host_run.specs.Telling.{Tells}
+use Rattle.host_run.specs.Reporting.{Reports}
 use Rattle.host_run.specs.declared.loading.Load.TheVariants as load
 
 module _ {O D F R K C I W E P L N M : Type 0} (o : offices.Ghosts O D) (d : office.Ghosts D)
@@ -87,5 +87,5 @@ module _ {O D F R K C I W E P L N M : Type 0} (o : offices.Ghosts O D) (d : offi
     pub ended : Ended
     pub between : Host O F K I W E P
     pub did : DoesRead read before between (ended_view ended)
-    pub told : Tells w e ended between.output after.output between.errors after.errors status
+    pub reported : Reports w e ended between.output after.output between.errors after.errors status
     pub rest : after ≡ record between { output = after.output; errors = after.errors }

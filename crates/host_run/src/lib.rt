@@ -5,10 +5,10 @@ pub mod laws;
 mod loading;
 mod loads;
 mod prints;
+mod reporting;
 mod running;
 mod serving;
-mod telling;
 
 pub use loading::Load;
+pub use reporting::report;
 pub use running::run;
-pub use telling::tell;

@@ -6,8 +6,8 @@ ghost use Rattle.host_run.specs.Runs.{Does, DoesRead, Runs};
 use crate::loading::Load;
 use crate::loads::load_file;
 use crate::prints::{replay, results};
+use crate::reporting::report;
 use crate::serving::serve;
-use crate::telling::tell;
 use byte_io::Source;
 use cli_args::{Plan, read_words};
 use cli_exit::{Ended, WordsFault};
@@ -116,5 +116,5 @@ pub fn run<O: OfficeFiles, F: Files, K: ZoneClocks, I: Source, W: Console, E: Co
         (map string_bytes words.now) host.old host.new result }
 {
     let ended = run_read(alloc, read_words(alloc, words), host);
-    tell(&ended, &mut host.output, &mut host.errors)
+    report(&ended, &mut host.output, &mut host.errors)
 }

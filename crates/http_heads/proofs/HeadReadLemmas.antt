@@ -21,8 +21,8 @@ pub none_read : (filled room : ℕ) (old new : List ℕ) (a b : Option (List ℕ
     → ReceivesBytes (take filled old) (take filled (put_mid filled room old new)) a b p p'
 none_read filled room old new a b p p' within k same =
     let sum : filled ≡ filled + 0 = omega arith in
-    let kept = ap (λ n. take n (put_mid filled room old new)) sum ∙ take-read_more filled room 0 old new within (omega arith) ∙ append-nil (take filled old) in
-    none_comes (take filled old) (take filled (put_mid filled room old new)) a b p p' kept k same
+    let preserved = ap (λ n. take n (put_mid filled room old new)) sum ∙ take-read_more filled room 0 old new within (omega arith) ∙ append-nil (take filled old) in
+    none_comes (take filled old) (take filled (put_mid filled room old new)) a b p p' preserved k same
 
 -- the bytes that a read gave stand behind those so far
 pub some_read : (filled room count : ℕ) (old new : List ℕ) (a b : Option (List ℕ)) (p p' : ℕ) → filled ≤ length old → count ≤ length new → Consumes a b (take count new) → p' ≡ p + count

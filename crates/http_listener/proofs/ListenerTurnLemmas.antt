@@ -54,15 +54,15 @@ gave-then : {C : Type 0} (gives : C → Moment → C → Type 0) (a b c : C) (mo
 gave-then {C} gives a b c [] more p q = subst (λ (it : C). GivesMoments gives it more c) p q
 gave-then gives a b c (now ∷ moments) more p q = (p.0, p.1, gave-then gives p.0 b c moments more p.2 q)
 
--- a call that a caller makes is made at the moment at which it is heard
-heard-at : (now : Moment) (who : Option Caller) (heard : Result Request ReceiveError) → IsMadeAt (call_of now who heard) now
-heard-at now None heard = tt
-heard-at now (Some who) (Ok request) = refl
-heard-at now (Some who) (Err why) = tt
+-- a call that a caller makes is made at the moment at which it is received
+content-at : (now : Moment) (who : Option Caller) (content : Result Request ReceiveError) → IsMadeAt (call_of now who content) now
+content-at now None content = tt
+content-at now (Some who) (Ok request) = refl
+content-at now (Some who) (Err why) = tt
 
 received-at : (now : Moment) (who : Option Caller) (received : ReceivedRequest) → IsMadeAt (call_by now who received) now
 received-at now who (Refused refusal) = tt
-received-at now who (With key heard) = heard-at now who heard
+received-at now who (With key content) = content-at now who content
 
 -- a run of one call, or of none
 run-one : (office : OfficeLists) (made : Option Call) → office_after office made ≡ (run_of office (calls_in (made ∷ []))).office
@@ -154,7 +154,7 @@ module _ {O : Type 0} (g : office.Ghosts O) where
   -- and where it gave none
   pub served_untimed : {T C R W : Type 0} (k : clock.Ghosts C) (r : source.Ghosts R) (h : sink.Ghosts W) (result : Result T NowError) (old new : O) (from till : C)
       (reader reader' : R) (before after : W) → ServesRequest g k r h result old new from till reader reader' before after → result ≡ Err Clock → k.fails from till × (new ≡ old)
-  served_untimed k r h result old new from till reader reader' before after (inl it) untimed = absurd (served_no_clock it.told (sym it.is ∙ untimed))
+  served_untimed k r h result old new from till reader reader' before after (inl it) untimed = absurd (served_no_clock it.returned (sym it.is ∙ untimed))
   served_untimed k r h result old new from till reader reader' before after (inr (inl it, same, unwritten)) untimed = let both = sym it.is ∙ untimed in absurd (cc)
   served_untimed k r h result old new from till reader reader' before after (inr (inr it, same, unwritten)) untimed = (it.fails, same)
 

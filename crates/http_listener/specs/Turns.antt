@@ -69,7 +69,7 @@ abbrev pub RanBy : {L C O : Type 0} → clock.Ghosts C → office.Ghosts O → �
 RanBy {C = C} k g most (Err fault.Clock) before after =
     (between : C) × RanAt k g most before.clock between before.office after.office
     × k.fails between after.clock
-RanBy k g most told before after =
+RanBy k g most returned before after =
     RanAt k g most before.clock after.clock before.office after.office
 
 -- a loop over connections, however it ends, leaves an office after such a run

@@ -29,10 +29,10 @@ use Rattle.http_requests.proofs.CameLemmas.{came-read}
 -- ---- what is asked
 
 -- with a whole body the request is what the body says
-pub asked-whole : (route : Route) (body behind : List ℕ) (heard : Result Request ReceiveError) → IsBody true body behind
-    → AgreesWith true (or_unreadable (asked_on_route route body)) heard → AgreesWith (has_front (length body) behind) (request_by route (length body) behind) heard
+pub asked-whole : (route : Route) (body behind : List ℕ) (content : Result Request ReceiveError) → IsBody true body behind
+    → AgreesWith true (or_unreadable (asked_on_route route body)) content → AgreesWith (has_front (length body) behind) (request_by route (length body) behind) content
 unfolding request_by
-asked-whole route body behind heard is h = rw is h
+asked-whole route body behind content is h = rw is h
 
 -- with bytes that are too few it is unreadable
 pub asked-short : (route : Route) (body behind : List ℕ) → IsBody false body behind → request_by route (length body) behind ≡ Err refusal.Unreadable
@@ -40,14 +40,14 @@ unfolding request_by
 asked-short route body behind is = rw is refl
 
 -- on the way of a head
-pub asked-way : (head : HeadContent) (way : Way) (rest behind bytes : List ℕ) (heard : Result Request ReceiveError) → way_in head ≡ Ok way → behind ≡ rest
-    → AgreesWith (has_front way.size (behind ++ bytes)) (request_by way.route way.size (behind ++ bytes)) heard → AgreesWith (is_whole head (rest ++ bytes)) (request_in head (rest ++ bytes)) heard
+pub asked-way : (head : HeadContent) (way : Way) (rest behind bytes : List ℕ) (content : Result Request ReceiveError) → way_in head ≡ Ok way → behind ≡ rest
+    → AgreesWith (has_front way.size (behind ++ bytes)) (request_by way.route way.size (behind ++ bytes)) content → AgreesWith (is_whole head (rest ++ bytes)) (request_in head (rest ++ bytes)) content
 unfolding request_in
-asked-way head way rest behind bytes heard is same h = rw (is, ← same) h
+asked-way head way rest behind bytes content is same h = rw (is, ← same) h
 
 -- and what has none is refused
-pub asked-nowhere : (head : HeadContent) (why : Refusal) (behind : List ℕ) (heard : Result Request ReceiveError) → way_in head ≡ Err why
-    → IsErrAnd heard (λ e. e ≡ unreceived.Refused why) → AgreesWith (is_whole head behind) (request_in head behind) heard
+pub asked-nowhere : (head : HeadContent) (why : Refusal) (behind : List ℕ) (content : Result Request ReceiveError) → way_in head ≡ Err why
+    → IsErrAnd content (λ e. e ≡ unreceived.Refused why) → AgreesWith (is_whole head behind) (request_in head behind) content
 unfolding request_in
 asked-nowhere head why behind (Ok request) is h = absurd h
 asked-nowhere head why behind (Err e) is h = rw (h, is) refl
@@ -67,7 +67,7 @@ unreadable-why route size behind why is = by (front_of size behind) is
     by None e = cc
     by (Some body) e = readable-why (asked_on_route route body) why e
 
-read-whole : (whole : Bool) (route : Route) (size : ℕ) (behind : List ℕ) (heard : Result Request ReceiveError) → AgreesWith whole (request_by route size behind) heard → most_read heard ≡ LONGEST_BODY
+read-whole : (whole : Bool) (route : Route) (size : ℕ) (behind : List ℕ) (content : Result Request ReceiveError) → AgreesWith whole (request_by route size behind) content → most_read content ≡ LONGEST_BODY
 read-whole whole route size behind (Ok request) h = refl
 read-whole whole route size behind (Err (unreceived.Refused why)) h = ap (λ w. most_read (Err (unreceived.Refused w))) (unreadable-why route size behind why h)
 read-whole whole route size behind (Err unreceived.Memory) h = refl
@@ -78,10 +78,10 @@ pub takes-nothing : (size most : ℕ) (came : List ℕ) → TakesBody size came 
 takes-nothing size most came = record { rest = omega arith; bound = omega arith }
 
 -- of a body on a way
-pub takes-way : (whole : Bool) (way : Result Way Refusal) (on : Way) (rest behind bytes more : List ℕ) (heard : Result Request ReceiveError) → way ≡ Ok on → on.size ≤ LONGEST_BODY → behind ≡ rest
-    → AgreesWith whole (request_by on.route on.size more) heard → length bytes ≤ on.size - length behind → TakesBody (size_on way) rest (most_read heard) bytes
-takes-way whole way on rest behind bytes more heard is within same hears few =
-    let most = read-whole whole on.route on.size more heard hears in
+pub takes-way : (whole : Bool) (way : Result Way Refusal) (on : Way) (rest behind bytes more : List ℕ) (content : Result Request ReceiveError) → way ≡ Ok on → on.size ≤ LONGEST_BODY → behind ≡ rest
+    → AgreesWith whole (request_by on.route on.size more) content → length bytes ≤ on.size - length behind → TakesBody (size_on way) rest (most_read content) bytes
+takes-way whole way on rest behind bytes more content is within same agrees few =
+    let most = read-whole whole on.route on.size more content agrees in
     let size : size_on way ≡ on.size = ap size_on is in
     record { rest = omega (arith, few, size, ap length same); bound = omega (arith, few, within, most) }
 

@@ -30,7 +30,7 @@ IsWhy whole said (unreceived.Refused refusal) = said ≡ Err refusal
 IsWhy whole said unreceived.Memory = IsTrue whole
 IsWhy whole said unreceived.Failed = ⊤
 
--- what is said, by a body that is whole or not, is heard so
+-- what is said, by a body that is whole or not, is received so
 abbrev pub AgreesWith : Bool → Result Request Refusal → Result Request ReceiveError → Type 0
 AgreesWith whole said (Ok request) = said ≡ Ok request
 AgreesWith whole said (Err why) = IsWhy whole said why
@@ -39,9 +39,9 @@ AgreesWith whole said (Err why) = IsWhy whole said why
 abbrev pub IsWith : Option (List ℕ) → Bool → Result Request Refusal → ReceivedRequest → Type 0
 IsWith None whole said received = received ≡ Refused refusal.Key
 IsWith (Some key) whole said received =
-    (heard : Result Request ReceiveError)
-    × (received ≡ With key heard)
-    × AgreesWith whole said heard
+    (content : Result Request ReceiveError)
+    × (received ≡ With key content)
+    × AgreesWith whole said content
 
 -- what a head asks with the bytes behind it
 abbrev pub HeadAsks : HeadContent → List ℕ → ReceivedRequest → Type 0
@@ -71,7 +71,7 @@ source_failed (Err unreceived.Failed) = true
 
 abbrev pub is_cut_off : ReceivedRequest → Bool
 is_cut_off (Refused refusal) = false
-is_cut_off (With key heard) = source_failed heard
+is_cut_off (With key content) = source_failed content
 
 -- some bytes came of a source, no more than may be taken, and this holds of them, and of the whole
 -- input where its bytes are known
@@ -94,12 +94,12 @@ abbrev pub most_read : Result Request ReceiveError → ℕ
 most_read (Err (unreceived.Refused refusal.Route)) = 0
 most_read (Err (unreceived.Refused refusal.Method)) = 0
 most_read (Err (unreceived.Refused refusal.TooLarge)) = 0
-most_read heard = LONGEST_BODY
+most_read content = LONGEST_BODY
 
 -- nor where it is refused whoever sent it
 abbrev pub most_body : ReceivedRequest → ℕ
 most_body (Refused refusal) = 0
-most_body (With key heard) = most_read heard
+most_body (With key content) = most_read content
 
 -- of a body of this size, of which a part came with the head, no more than the rest is read, nor
 -- more than so many

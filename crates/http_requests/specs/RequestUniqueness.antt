@@ -17,7 +17,7 @@ is_definite (Err unreceived.Failed) = false
 
 abbrev pub is_definite_received : ReceivedRequest → Bool
 is_definite_received (Refused refusal) = true
-is_definite_received (With key heard) = is_definite heard
+is_definite_received (With key content) = is_definite content
 
 -- all that is told of an input is one thing, but where its first 8,192 bytes hold no head and end
 -- inside the target

@@ -23,7 +23,7 @@ use std::alloc::Global;
 #[inline(never)]
 fn asked(alloc: Global, route: Route, body: &[u8]) -> Result<Request, ReceiveError>
     ensures asked { AgreesWith true (or_unreadable (asked_on_route route body.now)) result }
-    ensures heard { source_failed result ≡ false }
+    ensures content { source_failed result ≡ false }
 {
     let mut scratch = Scratch::new(alloc);
     Ok(route.request(alloc, &mut scratch, body)?)
@@ -34,7 +34,7 @@ fn asked_by(alloc: Global, route: Route, whole: bool, body: &[u8]) -> Result<Req
     ensures asked { (behind : List ℕ) → IsBody whole body.now behind
         → AgreesWith (has_front (length body.now) behind)
         (request_by route (length body.now) behind) result }
-    ensures heard { source_failed result ≡ false }
+    ensures content { source_failed result ≡ false }
 {
     if whole {
         asked(alloc, route, body)

@@ -113,22 +113,22 @@ name_there meeting to way e = by (is_name meeting) (in_places 16 meeting) e
     by false places e = cc
 
 of_desk : {way : Route} (found : Option (Unit {0})) (desk : Route) → served desk ≡ None → option_map (λ nothing. desk) found ≡ Some way → served way ≡ Some way → ⊥
-of_desk None desk none e kept = cc
-of_desk (Some nothing) desk none e kept = cc
+of_desk None desk none e preserved = cc
+of_desk (Some nothing) desk none e preserved = cc
 
 named_by : (verb : Verb) (meeting : List ℕ) (way : Route) → route_by verb meeting ≡ Some way → served way ≡ Some way → is_name meeting ≡ true
-named_by Call meeting way e kept = name_there meeting (λ m. route.Call m) way e
-named_by Closed meeting way e kept = absurd (of_desk (no_meeting meeting) route.Closed refl e kept)
-named_by Keys meeting way e kept = absurd (of_desk (no_meeting meeting) route.Keys refl e kept)
-named_by (Office verb) meeting way e kept = name_there meeting (λ m. route.Office m verb) way e
-named_by (Party verb) meeting way e kept = name_there meeting (λ m. route.Party m verb) way e
+named_by Call meeting way e preserved = name_there meeting (λ m. route.Call m) way e
+named_by Closed meeting way e preserved = absurd (of_desk (no_meeting meeting) route.Closed refl e preserved)
+named_by Keys meeting way e preserved = absurd (of_desk (no_meeting meeting) route.Keys refl e preserved)
+named_by (Office verb) meeting way e preserved = name_there meeting (λ m. route.Office m verb) way e
+named_by (Party verb) meeting way e preserved = name_there meeting (λ m. route.Party m verb) way e
 
 named_there : (meeting verb : List ℕ) (way : Route) → route_of meeting verb ≡ Some way → served way ≡ Some way → is_name meeting ≡ true
 unfolding route_of
-named_there meeting verb way e kept =
+named_there meeting verb way e preserved =
     let listed = step_of (verb_of verb) _ way e in
-    named_by listed.0 meeting way listed.2 kept
+    named_by listed.0 meeting way listed.2 preserved
 
 pub named : (meeting verb : List ℕ) (way : Route) → route_of meeting verb ≡ Some way → served way ≡ Some way → target_route (target_of meeting verb) ≡ Some way
 unfolding target_route
-named meeting verb way e kept = rw (parted_at meeting verb (named_there meeting verb way e kept), e) kept
+named meeting verb way e preserved = rw (parted_at meeting verb (named_there meeting verb way e preserved), e) preserved

@@ -256,22 +256,22 @@ list_written {E} {r} {ds} {a} {b} {c} h close =
 -- ---- the whole text
 
 abbrev mutual
-  depth_kept : (d : Data) → tree.depth (outline d) ≡ depth d
-  depth_kept null = refl
-  depth_kept (boolean b) = refl
-  depth_kept (number n) = refl
-  depth_kept (string s) = refl
-  depth_kept (array ds) = ap suc (items_depth_kept ds)
-  depth_kept (object ms) = ap suc (members_depth_kept ms)
+  depth_preserved : (d : Data) → tree.depth (outline d) ≡ depth d
+  depth_preserved null = refl
+  depth_preserved (boolean b) = refl
+  depth_preserved (number n) = refl
+  depth_preserved (string s) = refl
+  depth_preserved (array ds) = ap suc (items_depth_preserved ds)
+  depth_preserved (object ms) = ap suc (members_depth_preserved ms)
 
-  items_depth_kept : (ds : Items) → tree.items_depth (items_outline ds) ≡ items_depth ds
-  items_depth_kept no_items = refl
-  items_depth_kept (item d ds) = ap₂ max (depth_kept d) (items_depth_kept ds)
+  items_depth_preserved : (ds : Items) → tree.items_depth (items_outline ds) ≡ items_depth ds
+  items_depth_preserved no_items = refl
+  items_depth_preserved (item d ds) = ap₂ max (depth_preserved d) (items_depth_preserved ds)
 
-  members_depth_kept : (ms : Members) → tree.members_depth (members_outline ms) ≡ members_depth ms
-  members_depth_kept no_members = refl
-  members_depth_kept (member k d ms) = ap₂ max (depth_kept d) (members_depth_kept ms)
+  members_depth_preserved : (ms : Members) → tree.members_depth (members_outline ms) ≡ members_depth ms
+  members_depth_preserved no_members = refl
+  members_depth_preserved (member k d ms) = ap₂ max (depth_preserved d) (members_depth_preserved ms)
 
 pub text_read : (d : Data) (text : List ℕ) → ReadsBack d → depth d ≤ max_depth → tokens text ≡ data_tokens d → read text ≡ Some d
 text_read d text reads shallow same =
-    ap (λ (o : Option (json.Json × List Token)). option_and_then of_json (option_and_then (λ p. json.if_last p.0 p.1) o)) (ap (json.value max_depth) (same ∙ sym (append-nil (data_tokens d))) ∙ value-json_tokens (outline d) max_depth [] (omega (arith, depth_kept d))) ∙ reads
+    ap (λ (o : Option (json.Json × List Token)). option_and_then of_json (option_and_then (λ p. json.if_last p.0 p.1) o)) (ap (json.value max_depth) (same ∙ sym (append-nil (data_tokens d))) ∙ value-json_tokens (outline d) max_depth [] (omega (arith, depth_preserved d))) ∙ reads

@@ -8,26 +8,26 @@ use Rattle.json_requests.specs.JsonFields.{Fields, parsed_at}
 use Rattle.vocabulary.specs.OptionSteps.{◌>>=◌}
 
 -- a fact holds for what is read
-pub record Keeps {A : Type 0} (kept : A → Type 0) (read : Option A) : Type 0 where
-  pub some : (x : A) → read ≡ Some x → kept x
+pub record Keeps {A : Type 0} (preserved : A → Type 0) (read : Option A) : Type 0 where
+  pub some : (x : A) → read ≡ Some x → preserved x
 
-keeps_some : {A : Type 0} (kept : A → Type 0) (x : A) → kept x → Keeps kept (Some x)
-keeps_some kept x h = record { some = λ y e. let same : x ≡ y = cc in subst kept same h }
+keeps_some : {A : Type 0} (preserved : A → Type 0) (x : A) → preserved x → Keeps preserved (Some x)
+keeps_some preserved x h = record { some = λ y e. let same : x ≡ y = cc in subst preserved same h }
 
 -- the fact rests on the next reading alone
-pub keeps_next : {A B : Type 0} (kept : B → Type 0) (read : Option A) (next : A → Option B) → ((x : A) → Keeps kept (next x)) → Keeps kept (read >>= next)
-keeps_next kept (Some x) next later = later x
-keeps_next kept None next later = record { some = λ y e. cc }
+pub keeps_next : {A B : Type 0} (preserved : B → Type 0) (read : Option A) (next : A → Option B) → ((x : A) → Keeps preserved (next x)) → Keeps preserved (read >>= next)
+keeps_next preserved (Some x) next later = later x
+keeps_next preserved None next later = record { some = λ y e. cc }
 
 -- the meeting that is called has the name
 pub call_keeps : (meeting : List ℕ) (fields : Fields) → Keeps (λ (new : NewMeeting). Some meeting ≡ Some new.meeting) (call_body meeting fields)
 unfolding call_body
 call_keeps meeting (company ∷ kind ∷ given ∷ appointed ∷ record_moment ∷ resolutions ∷ []) =
-    let kept : NewMeeting → Type 0 = λ new. Some meeting ≡ Some new.meeting in
-    keeps_next kept (parsed_at company_of _) _ (λ company.
-    keeps_next kept (parsed_at meeting_kind_of _) _ (λ kind.
-    keeps_next kept (parsed_at day_of _) _ (λ given.
-    keeps_next kept (parsed_at moment_of _) _ (λ appointed.
-    keeps_next kept (parsed_at moment_of _) _ (λ record_moment.
-    keeps_next kept (resolutions_in _) _ (λ resolutions. keeps_some kept _ refl))))))
+    let preserved : NewMeeting → Type 0 = λ new. Some meeting ≡ Some new.meeting in
+    keeps_next preserved (parsed_at company_of _) _ (λ company.
+    keeps_next preserved (parsed_at meeting_kind_of _) _ (λ kind.
+    keeps_next preserved (parsed_at day_of _) _ (λ given.
+    keeps_next preserved (parsed_at moment_of _) _ (λ appointed.
+    keeps_next preserved (parsed_at moment_of _) _ (λ record_moment.
+    keeps_next preserved (resolutions_in _) _ (λ resolutions. keeps_some preserved _ refl))))))
 call_keeps meeting other = record { some = λ y e. cc }

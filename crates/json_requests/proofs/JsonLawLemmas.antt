@@ -77,11 +77,11 @@ of_readable : (read : Option Request) (wanted : Request) → or_unreadable read 
 of_readable None wanted e = cc
 of_readable (Some made) wanted e = cc
 
-kept : (meeting : List ℕ) (found : Option Route) → ((way : Route) → found ≡ Some way → meeting_of meeting ≡ meeting_on way)
+preserved : (meeting : List ℕ) (found : Option Route) → ((way : Route) → found ≡ Some way → meeting_of meeting ≡ meeting_on way)
     → (body : List ℕ) (wanted : Request) → routed found >>= (λ way. or_unreadable (asked_on_route way body)) ≡ Ok wanted → meeting_of meeting ≡ meeting_asked wanted
-kept meeting None is body wanted e = cc
-kept meeting (Some way) is body wanted e = is way refl ∙ of_route way body wanted (of_readable (asked_on_route way body) wanted e)
+preserved meeting None is body wanted e = cc
+preserved meeting (Some way) is body wanted e = is way refl ∙ of_route way body wanted (of_readable (asked_on_route way body) wanted e)
 
 pub requests_keep_the_meeting_lem : (meeting verb body : List ℕ) (request : Request) → request_of meeting verb body ≡ Ok request → meeting_of meeting ≡ meeting_asked request
 unfolding request_of
-requests_keep_the_meeting_lem meeting verb body request e = kept meeting (route_of meeting verb) (route_keeps meeting verb) body request e
+requests_keep_the_meeting_lem meeting verb body request e = preserved meeting (route_of meeting verb) (route_keeps meeting verb) body request e

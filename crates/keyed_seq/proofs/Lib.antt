@@ -1,2 +1,2 @@
-pub mod KeptPlaces
+pub mod StoredPlaces
 pub mod KeyedPlaceLemmas

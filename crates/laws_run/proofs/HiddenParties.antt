@@ -42,7 +42,7 @@ use Rattle.caller_view.specs.CastRulings.{block_of, cast_of, has_cast_enough}
 use Rattle.party_views.specs.OwnViews.{known_to_proxy, own_from, poll_governed, session_governed}
 use Rattle.party_views.specs.RowsRead.{cast_on, own_read}
 use Rattle.caller_view.specs.Rights.{governed_for, is_against, is_not_own, is_uninstructed, may_vote_for}
-use Rattle.party_views.specs.PartyRows.{rows_in, rows_of}
+use Rattle.party_views.specs.PartyRows.{own_rows_in, own_rows}
 use Rattle.party_views.specs.SessionLists.{each_session}
 use Rattle.party_views.specs.Views.{meeting_at, own_of, public_in, public_of}
 use Rattle.party_views.specs.declared.own_rows.MemberRows.{MemberRows}
@@ -58,11 +58,11 @@ use Rattle.laws_run.proofs.PartyLemmas.{answer_to, by-party, entry-of, own-party
 
 -- ---- own things, and what is asked, without the count
 
-map-kept : {Y : Type 0} (f : Poll → Y) (test : Poll → Bool) (seen : Poll → Poll) (polls : List Poll) → ((p : Poll) → test (seen p) ≡ test p) → ((p : Poll) → f (seen p) ≡ f p)
+map-filtered : {Y : Type 0} (f : Poll → Y) (test : Poll → Bool) (seen : Poll → Poll) (polls : List Poll) → ((p : Poll) → test (seen p) ≡ test p) → ((p : Poll) → f (seen p) ≡ f p)
     → map f (filter test (map seen polls)) ≡ map f (filter test polls)
-map-kept f test seen [] tested made = refl
-map-kept f test seen (p ∷ ps) tested made =
-    let rest = map-kept f test seen ps tested made in
+map-filtered f test seen [] tested made = refl
+map-filtered f test seen (p ∷ ps) tested made =
+    let rest = map-filtered f test seen ps tested made in
     ap (λ b. map f (cond b (seen p ∷ filter test (map seen ps)) (filter test (map seen ps)))) (tested p)
     ∙ (elim (test p) as (λ b. map f (cond b (seen p ∷ filter test (map seen ps)) (filter test (map seen ps))) ≡ map f (cond b (p ∷ filter test ps) (filter test ps))) [
       | true ↦ λ i. made p i ∷ rest i
@@ -74,7 +74,7 @@ late-uncounted : (resolution : ℕ) (members : List MemberRows) (closed : List �
     ≡ map (poll_governed members closed meeting now member number) (filter (is_late_poll closed) polls)
 late-uncounted resolution members closed meeting now member number polls =
     let governs = poll_governed members closed meeting now member number in
-    map-kept governs (is_late_poll closed) (uncounted resolution) polls
+    map-filtered governs (is_late_poll closed) (uncounted resolution) polls
     (λ p. elim (p.resolution == resolution) as (λ b. is_late_poll closed (cond b (without_count p) p) ≡ is_late_poll closed p) [ true ↦ refl | false ↦ refl ])
     (λ p. elim (p.resolution == resolution) as (λ b. governs (cond b (without_count p) p) ≡ governs p) [ true ↦ refl | false ↦ refl ])
 
@@ -185,25 +185,25 @@ casts-alike secret party number casts other =
 
 -- the answer to a party in a meeting that is found
 abbrev answer_found : Option MeetingLists → List ℕ → List ℕ → ℕ → PartyRequest → Answer Entry
-answer_found found closed party now what = answered (public_in found closed) (own_from (rows_in found party) (public_in found closed) now) now what
+answer_found found closed party now what = answered (public_in found closed) (own_from (own_rows_in found party) (public_in found closed) now) now what
 
 -- own things of a party with these votes in place of its own
 abbrev own_with : MeetingLists → List ℕ → List ℕ → ℕ → List CastMark → OwnView
-own_with m closed party now casts = own_from (record (rows_of m party) { casts = casts }) (public_in (Some m) closed) now
+own_with m closed party now casts = own_from (record (own_rows m party) { casts = casts }) (public_in (Some m) closed) now
 
 -- what a request enters is the same where the votes are alike that it reads
 entered-with : ReadsEnough own_read → (m : MeetingLists) (closed party : List ℕ) (now : ℕ) (casts : List CastMark) (what : PartyRequest)
-    → ((number : ℕ) → is_vote_request number what ≡ true → cast_on number casts ≡ cast_on number (rows_of m party).casts)
-    → (answered (public_in (Some m) closed) (own_with m closed party now casts) now what).change ≡ (answered (public_in (Some m) closed) (own_from (rows_of m party) (public_in (Some m) closed) now) now what).change
+    → ((number : ℕ) → is_vote_request number what ≡ true → cast_on number casts ≡ cast_on number (own_rows m party).casts)
+    → (answered (public_in (Some m) closed) (own_with m closed party now casts) now what).change ≡ (answered (public_in (Some m) closed) (own_from (own_rows m party) (public_in (Some m) closed) now) now what).change
 entered-with enough m closed party now casts (Cast new) h =
     let public = public_in (Some m) closed in
-    let own = own_from (rows_of m party) public now in
+    let own = own_from (own_rows m party) public now in
     let same = h new.resolution (eq-eqb new.resolution new.resolution refl) in
     ap (λ (a : Answer Entry). a.change)
     (sym (enough public (own_with m closed party now casts) now (Cast new)) ∙ (λ i. answered public (record (own_read (Cast new) own) { casts = same i }) now (Cast new)) ∙ enough public own now (Cast new))
 entered-with enough m closed party now casts (Instructed number) h =
     let public = public_in (Some m) closed in
-    let own = own_from (rows_of m party) public now in
+    let own = own_from (own_rows m party) public now in
     let same = h number (eq-eqb number number refl) in
     ap (λ (a : Answer Entry). a.change)
     (sym (enough public (own_with m closed party now casts) now (Instructed number)) ∙ (λ i. answered public (record (own_read (Instructed number) own) { casts = same i }) now (Instructed number))
@@ -227,11 +227,11 @@ entered-alike : ReadsEnough own_read → (secret : Secret) (m : MeetingLists) (c
     → (answer_found (Some (hidden_in secret m)) closed party now what).change ≡ (answer_found (Some m) closed party now what).change
 entered-alike enough secret m closed party now what none =
     let casts = filter (is_cast_by party) (filter (λ (c : CastMark). not (is_secret_cast secret c)) m.casts) in
-    let rows = record (rows_of m party) { casts = casts } in
+    let rows = record (own_rows m party) { casts = casts } in
     ap (λ own. (answered (public_in (Some (uncounted_in secret.resolution m)) closed) own now what).change) (own-uncounted secret.resolution m closed rows now)
     ∙ entered-uncounted secret.resolution m closed (own_with m closed party now casts) now what
     ∙ entered-with enough m closed party now casts what (λ number on.
-    (elim (secret.voters party) as (λ b. secret.voters party ≡ b → (b && is_vote_request secret.resolution what) ≡ false → cast_on number casts ≡ cast_on number (rows_of m party).casts) [
+    (elim (secret.voters party) as (λ b. secret.voters party ≡ b → (b && is_vote_request secret.resolution what) ≡ false → cast_on number casts ≡ cast_on number (own_rows m party).casts) [
       | true ↦ λ _ off. casts-alike secret party number m.casts (vote-apart number secret.resolution what on off)
       | false ↦ λ other _. ap (cast_on number) (others-casts secret party m.casts other)
     ]) refl none)
@@ -298,13 +298,13 @@ party-change enough secret o now party request =
 
 -- ---- what a party is told
 
-rows-kept : (secret : Secret) (o : OfficeLists) (party at : List ℕ) → secret.voters party ≡ false → rows_in (meeting_at (office_without secret o) at) party ≡ rows_in (meeting_at o at) party
-rows-kept secret o party at other =
-    ap (λ found. rows_in found party) (hidden-found secret o at)
-    ∙ elim (same_name secret.meeting at) as (λ b. rows_in (cond b (option_map (hidden_in secret) (meeting_at o at)) (meeting_at o at)) party ≡ rows_in (meeting_at o at) party) [
-      | true ↦ elim (meeting_at o at) as (λ found. rows_in (option_map (hidden_in secret) found) party ≡ rows_in found party) [
+rows-preserved : (secret : Secret) (o : OfficeLists) (party at : List ℕ) → secret.voters party ≡ false → own_rows_in (meeting_at (office_without secret o) at) party ≡ own_rows_in (meeting_at o at) party
+rows-preserved secret o party at other =
+    ap (λ found. own_rows_in found party) (hidden-found secret o at)
+    ∙ elim (same_name secret.meeting at) as (λ b. own_rows_in (cond b (option_map (hidden_in secret) (meeting_at o at)) (meeting_at o at)) party ≡ own_rows_in (meeting_at o at) party) [
+      | true ↦ elim (meeting_at o at) as (λ found. own_rows_in (option_map (hidden_in secret) found) party ≡ own_rows_in found party) [
         | None ↦ refl
-        | Some m ↦ ap (λ casts. record (rows_of m party) { casts = casts }) (others-casts secret party m.casts other)
+        | Some m ↦ ap (λ casts. record (own_rows m party) { casts = casts }) (others-casts secret party m.casts other)
       ]
       | false ↦ refl
     ]
@@ -314,7 +314,7 @@ pub party-alike : (secret : Secret) (o : OfficeLists) (now : ℕ) (party : List 
     → decided (office_without secret o) (party_call now party request) ≡ decided o (party_call now party request)
 party-alike secret o now party (asked.Party at what) other none =
     let public = hidden-public secret o at none in
-    let rows = rows-kept secret o party at other in
+    let rows = rows-preserved secret o party at other in
     by-party (office_without secret o) party now at what
     ∙ (λ i. map_change (λ e. InMeeting at (Enter e)) (answered (public i) (own_from (rows i) (public i) now) now what))
     ∙ sym (by-party o party now at what)

@@ -27,8 +27,8 @@ use Rattle.caller_view.specs.AttendanceRulings.{authority_of, demand_mark, gave_
 use Rattle.caller_view.specs.CastRulings.{block_of, cast_of}
 use Rattle.party_views.specs.OwnViews.{own_from}
 use Rattle.party_views.specs.Public.{PublicRecord}
-use Rattle.party_views.specs.RowsRead.{given_read, rows_part, rows_read}
-use Rattle.party_views.specs.PartyRows.{no_rows_of, rows_in}
+use Rattle.party_views.specs.RowsRead.{given_read, own_rows_part, own_rows_read}
+use Rattle.party_views.specs.PartyRows.{no_own_rows, own_rows_in}
 use Rattle.party_views.specs.declared.reads.Reads.TheVariants.{GivenCount}
 use Rattle.party_views.specs.Views.{meeting_at, own_of, public_in, public_of}
 use Rattle.party_views.specs.declared.views.OwnView.{OwnView}
@@ -51,7 +51,7 @@ by-party o party now at what = settled_within (λ e. InMeeting at (Enter e)) (pa
 -- own things are the party's
 pub own-party : (o : OfficeLists) (party at : List ℕ) (now : ℕ) → (own_of o party at now).party ≡ party
 own-party o party at now =
-    elim (meeting_at o at) as (λ found. (own_from (rows_in found party) (public_in found o.closed) now).party ≡ party) [ None ↦ refl | Some m ↦ refl ]
+    elim (meeting_at o at) as (λ found. (own_from (own_rows_in found party) (public_in found o.closed) now).party ≡ party) [ None ↦ refl | Some m ↦ refl ]
 
 -- ---- what is entered
 
@@ -125,42 +125,42 @@ pub own-answer : (viewer : Viewer) (one other : OfficeLists) (now : ℕ) (at : L
 own-answer viewer one other now at what alike =
     let public : public_of one at ≡ public_of other at = ap (λ (part : Part). part.public) (alike.parts at) in
     let near : near_in viewer (meeting_at one at) ≡ near_in viewer (meeting_at other at) = ap (λ (part : Part). part.near) (alike.parts at) in
-    let rows : rows_in (meeting_at one at) viewer.party ≡ rows_in (meeting_at other at) viewer.party =
+    let rows : own_rows_in (meeting_at one at) viewer.party ≡ own_rows_in (meeting_at other at) viewer.party =
     sym (rows-near viewer (meeting_at one at) (alike.first at)) ∙ ap (rows_from viewer) near ∙ rows-near viewer (meeting_at other at) (alike.second at) in
     λ i. ruled_answer (party_ruling (public i) (own_from (rows i) (public i) now) now what)
 
 -- the rows that are read are the party's
-party-in : (found : Option MeetingLists) (party : List ℕ) → (rows_in found party).party ≡ party
+party-in : (found : Option MeetingLists) (party : List ℕ) → (own_rows_in found party).party ≡ party
 party-in None party = refl
 party-in (Some m) party = refl
 
 -- what is read of the appointments and endings of one who is near
 given-read : (viewer : Viewer) (one other : Option MeetingLists) (party : List ℕ) → is_near viewer party ≡ true → near_in viewer one ≡ near_in viewer other
-    → given_read (rows_in one party) ≡ given_read (rows_in other party)
+    → given_read (own_rows_in one party) ≡ given_read (own_rows_in other party)
 given-read viewer one other party near same =
-    let named = λ (found : Option MeetingLists). ap (λ who. record (no_rows_of who) { given = (rows_in found party).given; ended = (rows_in found party).ended }) (party-in found party) in
+    let named = λ (found : Option MeetingLists). ap (λ who. record (no_own_rows who) { given = (own_rows_in found party).given; ended = (own_rows_in found party).ended }) (party-in found party) in
     named one ∙ sym (giving-near viewer one party near)
-    ∙ ap (λ (n : Near). record (no_rows_of party) { given = filter (is_given_by party) n.appointments; ended = filter (is_ended_of party) n.endings }) same
+    ∙ ap (λ (n : Near). record (no_own_rows party) { given = filter (is_given_by party) n.appointments; ended = filter (is_ended_of party) n.endings }) same
     ∙ giving-near viewer other party near ∙ sym (named other)
 
 -- what is read of how many appointments one who is near gave
 count-read : (viewer : Viewer) (one other : Option MeetingLists) (party : List ℕ) → is_near viewer party ≡ true → near_in viewer one ≡ near_in viewer other
-    → rows_part GivenCount (rows_in one party) ≡ rows_part GivenCount (rows_in other party)
+    → own_rows_part GivenCount (own_rows_in one party) ≡ own_rows_part GivenCount (own_rows_in other party)
 count-read viewer one other party near same =
-    let named = λ (found : Option MeetingLists). ap (λ who. record (no_rows_of who) { given_count = (rows_in found party).given_count }) (party-in found party) in
+    let named = λ (found : Option MeetingLists). ap (λ who. record (no_own_rows who) { given_count = (own_rows_in found party).given_count }) (party-in found party) in
     named one ∙ sym (counting-near viewer one party near)
-    ∙ ap (λ (n : Near). record (no_rows_of party) { given_count = length (filter (is_given_by party) n.appointments) }) same
+    ∙ ap (λ (n : Near). record (no_own_rows party) { given_count = length (filter (is_given_by party) n.appointments) }) same
     ∙ counting-near viewer other party near ∙ sym (named other)
 
 -- what is read of what one who is near gave
 read-near : (viewer : Viewer) (one other : Option MeetingLists) (party : List ℕ) (what : PartyRequest) → is_near viewer party ≡ true → is_giving what ≡ true
-    → near_in viewer one ≡ near_in viewer other → rows_read what (rows_in one party) ≡ rows_read what (rows_in other party)
+    → near_in viewer one ≡ near_in viewer other → own_rows_read what (own_rows_in one party) ≡ own_rows_read what (own_rows_in other party)
 read-near viewer one other party (Appoint new) near h same = count-read viewer one other party near same
 read-near viewer one other party (End number) near h same = given-read viewer one other party near same
 read-near viewer one other party (Authorise person) near h same =
-    let named = λ (found : Option MeetingLists). ap (λ who. record (no_rows_of who) { persons = (rows_in found party).persons }) (party-in found party) in
+    let named = λ (found : Option MeetingLists). ap (λ who. record (no_own_rows who) { persons = (own_rows_in found party).persons }) (party-in found party) in
     named one ∙ sym (authorising-near viewer one party near)
-    ∙ ap (λ (n : Near). record (no_rows_of party) { persons = filter (is_authority_of party) n.authorities }) same
+    ∙ ap (λ (n : Near). record (no_own_rows party) { persons = filter (is_authority_of party) n.authorities }) same
     ∙ authorising-near viewer other party near ∙ sym (named other)
 read-near viewer one other party what near h same = absurd (cc)
 
@@ -171,6 +171,6 @@ source-answer viewer one other party now at what alike close h =
     let public : public_of one at ≡ public_of other at = ap (λ (part : Part). part.public) (alike.parts at) in
     let near : near_in viewer (meeting_at one at) ≡ near_in viewer (meeting_at other at) = ap (λ (part : Part). part.near) (alike.parts at) in
     let rows = read-near viewer (meeting_at one at) (meeting_at other at) party what close h near in
-    sym (rows_enough (rows_in (meeting_at one at) party) (public_of one at) now what)
+    sym (rows_enough (own_rows_in (meeting_at one at) party) (public_of one at) now what)
     ∙ (λ i. ruled_answer (party_ruling (public i) (own_from (rows i) (public i) now) now what))
-    ∙ rows_enough (rows_in (meeting_at other at) party) (public_of other at) now what
+    ∙ rows_enough (own_rows_in (meeting_at other at) party) (public_of other at) now what

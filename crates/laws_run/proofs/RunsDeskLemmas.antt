@@ -24,7 +24,7 @@ use Rattle.laws_run.specs.Isolation.{AreIndistinguishable, IsolatesSteps}
 use Rattle.laws_run.specs.NearParts.{IsSourced, Near, Part, Viewer, is_near, is_source, near_in, part_of}
 use Rattle.laws_run.specs.Traces.{Shown, ShownRequest, Whole, Office, is_by, is_giving, is_near_by, is_shown, names_party, shown_of, shown_request}
 use Rattle.laws_run.proofs.RunsFoundLemmas.{after_entry, public-entry}
-use Rattle.laws_run.proofs.RunsOfficeLemmas.{near_shown, near-office, office_after, office-kept, public-office}
+use Rattle.laws_run.proofs.RunsOfficeLemmas.{near_shown, near-office, office_after, office-preserved, public-office}
 use Rattle.laws_run.proofs.RunsPartLemmas.{is_near_some, near_at, near_at-stays, near_some, near-after, sourced-entry}
 use Rattle.laws_run.proofs.RunsRunLemmas.{call_in}
 use Rattle.laws_run.proofs.PartyLemmas.{answer_to, by-party, entry-of, own-answer, own-party, source-answer, sourced-what, unseen-entry}
@@ -59,9 +59,9 @@ party-unseen viewer o party now (asked.Party at what) id h =
 party-unseen viewer o party now other id h = refl
 
 -- nothing is shown of a call of the office where nothing is told of it
-untold : (told : Option ShownRequest) (after : List ℕ → PublicRecord) → option_map (λ t. Office t after) told ≡ None → told ≡ None
-untold None after h = refl
-untold (Some t) after h = absurd (cc)
+indefinite : (viewed : Option ShownRequest) (after : List ℕ → PublicRecord) → option_map (λ t. Office t after) viewed ≡ None → viewed ≡ None
+indefinite None after h = refl
+indefinite (Some t) after h = absurd (cc)
 
 -- nor of a call of a party where it is not shown
 not-whole : (b : Bool) (call : Call) → cond b (Some (Whole call)) None ≡ None → b ≡ false
@@ -72,9 +72,9 @@ unseen-by : (viewer : Viewer) (o : OfficeLists) (now : ℕ) (who : Caller) (requ
     → shown_of decided viewer o (record { moment = now; caller = who; request = request }) ≡ None → (id : List ℕ)
     → part_of viewer (stepped o (record { moment = now; caller = who; request = request })) id ≡ part_of viewer o id
 unseen-by viewer o now caller.Office request h id =
-    let none = untold (shown_request viewer now request) (public_of (office_after o now request)) h in
+    let none = indefinite (shown_request viewer now request) (public_of (office_after o now request)) h in
     part-of viewer (office_after o now request) o id (public-office viewer o now request id none)
-    (near-office viewer o now request id ∙ ap (λ told. near_shown told id (public_of o id).meeting (near_in viewer (meeting_at o id))) none)
+    (near-office viewer o now request id ∙ ap (λ viewed. near_shown viewed id (public_of o id).meeting (near_in viewer (meeting_at o id))) none)
 unseen-by viewer o now (caller.Party party) request h id =
     party-unseen viewer o party now request id (not-whole (is_shown viewer party request) (party_call now party request) h)
 
@@ -122,22 +122,22 @@ whole-of true call shown h = record { passes = refl; is = h }
 whole-of false call shown h = absurd (cc)
 
 -- what is shown of a call of the office is what is told, and the public records
-record IsTold (told : Option ShownRequest) (after : List ℕ → PublicRecord) (shown : Shown) : Type 0 where
+record IsViewed (viewed : Option ShownRequest) (after : List ℕ → PublicRecord) (shown : Shown) : Type 0 where
   what : ShownRequest
-  told_is : told ≡ Some what
+  viewed_is : viewed ≡ Some what
   is : Some (Office what after) ≡ Some shown
 
-told-of : (told : Option ShownRequest) (after : List ℕ → PublicRecord) (shown : Shown) → option_map (λ t. Office t after) told ≡ Some shown → IsTold told after shown
-told-of None after shown h = absurd (cc)
-told-of (Some t) after shown h = record { what = t; told_is = refl; is = h }
+viewed-of : (viewed : Option ShownRequest) (after : List ℕ → PublicRecord) (shown : Shown) → option_map (λ t. Office t after) viewed ≡ Some shown → IsViewed viewed after shown
+viewed-of None after shown h = absurd (cc)
+viewed-of (Some t) after shown h = record { what = t; viewed_is = refl; is = h }
 
 -- what is told, the public records, and whether a call is shown
-abbrev told_in : ShownRequest → Option Shown → ShownRequest
-told_in told (Some (Office found after)) = found
-told_in told other = told
+abbrev viewed_in : ShownRequest → Option Shown → ShownRequest
+viewed_in viewed (Some (Office found after)) = found
+viewed_in viewed other = viewed
 
 abbrev after_in : (List ℕ → PublicRecord) → Option Shown → List ℕ → PublicRecord
-after_in after (Some (Office told found)) = found
+after_in after (Some (Office viewed found)) = found
 after_in after other = after
 
 abbrev is_whole : Option Shown → Bool
@@ -145,12 +145,12 @@ is_whole (Some (Whole call)) = true
 is_whole other = false
 
 office-seen : (viewer : Viewer) (one other : OfficeLists) (now : ℕ) (request : Request) (then : ℕ) (again : Request) (shown : Shown) → AreIndistinguishable viewer one other
-    → IsTold (shown_request viewer now request) (public_of (office_after one now request)) shown
-    → IsTold (shown_request viewer then again) (public_of (office_after other then again)) shown
+    → IsViewed (shown_request viewer now request) (public_of (office_after one now request)) shown
+    → IsViewed (shown_request viewer then again) (public_of (office_after other then again)) shown
     → (id : List ℕ) → part_of viewer (office_after one now request) id ≡ part_of viewer (office_after other then again) id
 office-seen viewer one other now request then again shown alike first second id =
     let same = first.is ∙ sym second.is in
-    let what : shown_request viewer now request ≡ shown_request viewer then again = first.told_is ∙ ap (λ s. Some (told_in first.what s)) same ∙ sym second.told_is in
+    let what : shown_request viewer now request ≡ shown_request viewer then again = first.viewed_is ∙ ap (λ s. Some (viewed_in first.what s)) same ∙ sym second.viewed_is in
     let after = ap (λ s. after_in (public_of (office_after one now request)) s) same in
     let public : public_of one id ≡ public_of other id = ap (λ (part : Part). part.public) (alike.parts id) in
     let near : near_in viewer (meeting_at one id) ≡ near_in viewer (meeting_at other id) = ap (λ (part : Part). part.near) (alike.parts id) in
@@ -162,15 +162,15 @@ seen-by : (viewer : Viewer) (one other : OfficeLists) (now : ℕ) (who : Caller)
     → shown_of decided viewer other (record { moment = then; caller = whom; request = again }) ≡ Some shown → (id : List ℕ)
     → part_of viewer (stepped one (record { moment = now; caller = who; request = request })) id ≡ part_of viewer (stepped other (record { moment = then; caller = whom; request = again })) id
 seen-by viewer one other now caller.Office request then caller.Office again shown alike h k id =
-    office-seen viewer one other now request then again shown alike (told-of (shown_request viewer now request) (public_of (office_after one now request)) shown h)
-    (told-of (shown_request viewer then again) (public_of (office_after other then again)) shown k) id
+    office-seen viewer one other now request then again shown alike (viewed-of (shown_request viewer now request) (public_of (office_after one now request)) shown h)
+    (viewed-of (shown_request viewer then again) (public_of (office_after other then again)) shown k) id
 seen-by viewer one other now caller.Office request then (caller.Party party) again shown alike h k id =
-    let first = told-of (shown_request viewer now request) (public_of (office_after one now request)) shown h in
+    let first = viewed-of (shown_request viewer now request) (public_of (office_after one now request)) shown h in
     let second = whole-of (is_shown viewer party again) (party_call then party again) shown k in
     let no : true ≡ false = ap is_whole (second.is ∙ sym first.is) in absurd (true≢false no)
 seen-by viewer one other now (caller.Party party) request then caller.Office again shown alike h k id =
     let first = whole-of (is_shown viewer party request) (party_call now party request) shown h in
-    let second = told-of (shown_request viewer then again) (public_of (office_after other then again)) shown k in
+    let second = viewed-of (shown_request viewer then again) (public_of (office_after other then again)) shown k in
     let no : true ≡ false = ap is_whole (first.is ∙ sym second.is) in absurd (true≢false no)
 seen-by viewer one other now (caller.Party party) request then (caller.Party again_party) again shown alike h k id =
     let first = whole-of (is_shown viewer party request) (party_call now party request) shown h in
@@ -194,16 +194,16 @@ replied-to : (viewer : Viewer) (one other : OfficeLists) (now : ℕ) (who : Call
 replied-to viewer one other now caller.Office request alike h = absurd (cc)
 replied-to viewer one other now (caller.Party party) request alike h = replied-by viewer one other party now request alike h
 
-kept-by : (viewer : Viewer) (o : OfficeLists) (now : ℕ) (who : Caller) (request : Request) → is_near_by viewer request who ≡ true → IsSourced viewer o
+preserved-by : (viewer : Viewer) (o : OfficeLists) (now : ℕ) (who : Caller) (request : Request) → is_near_by viewer request who ≡ true → IsSourced viewer o
     → IsSourced viewer (stepped o (record { moment = now; caller = who; request = request }))
-kept-by viewer o now caller.Office request h sourced = office-kept viewer o now request sourced
-kept-by viewer o now (caller.Party party) (asked.Party at what) h sourced =
+preserved-by viewer o now caller.Office request h sourced = office-preserved viewer o now request sourced
+preserved-by viewer o now (caller.Party party) (asked.Party at what) h sourced =
     let own = own_of o party at now in
     let from_near : implies (names_party viewer.party (asked.Party at what)) (is_near viewer own.party) ≡ true =
     ap (λ who. implies (names_party viewer.party (asked.Party at what)) (is_near viewer who)) (own-party o party at now) ∙ h in
     let good = entry-of (λ entry. is_near_some viewer entry ≡ true) (public_of o at) own now what refl (sourced-what viewer own now at what from_near) in
     subst (IsSourced viewer) (sym (after-party o party now at what)) (sourced-entry viewer o at (answer_to o party now at what).change good sourced)
-kept-by viewer o now (caller.Party party) request h sourced = sourced
+preserved-by viewer o now (caller.Party party) request h sourced = sourced
 
 pub desk_steps : IsolatesSteps decided
 desk_steps = record {
@@ -211,5 +211,5 @@ desk_steps = record {
   seen = λ viewer one other call again shown alike near near_again h k id.
       seen-by viewer one other call.moment call.caller call.request again.moment again.caller again.request shown alike h k id;
   replied = λ viewer one other call alike h. replied-to viewer one other call.moment call.caller call.request alike h;
-  kept = λ viewer o call near sourced. kept-by viewer o call.moment call.caller call.request near sourced;
+  preserved = λ viewer o call near sourced. preserved-by viewer o call.moment call.caller call.request near sourced;
 }

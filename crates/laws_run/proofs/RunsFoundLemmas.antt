@@ -14,7 +14,7 @@ use Rattle.desk_words.specs.declared.office.MeetingLists.{MeetingLists}
 use Rattle.desk_words.specs.declared.office.OfficeLists.{OfficeLists}
 use Rattle.desk_words.specs.declared.records.Meeting.{Meeting}
 use Rattle.party_views.specs.Views.{meeting_at, public_in, public_of}
-use Rattle.meeting_core.proofs.OfficeKept.{entered_meeting, entered_polls}
+use Rattle.meeting_core.proofs.OfficePreserved.{entered_meeting, entered_polls}
 
 -- no change gives a meeting another name
 pub changed-name : (change : MeetingChange) (m : MeetingLists) → (changed change m).meeting.id ≡ m.meeting.id

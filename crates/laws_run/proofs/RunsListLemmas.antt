@@ -6,7 +6,7 @@ use Rattle.std.specs.Cmp.Derive.{both_true}
 use Rattle.std.specs.List.{list_all}
 use Rattle.std.proofs.lemmas.List.{map-append}
 use Rattle.std.proofs.lemmas.List.Folds.{list_all-append}
-use Rattle.seq.proofs.Kept.{all-filter}
+use Rattle.seq.proofs.Filtered.{all-filter}
 use Rattle.vocabulary.specs.Names.{same_name}
 use Rattle.desk_words.specs.Office.{implies}
 use Rattle.party_views.specs.PartyRows.{parties_once}

@@ -116,10 +116,10 @@ sourced-office viewer o now at id (Declare resolution) =
     (λ m. unseen-change (is_sourced_in viewer) o at id (SetPoll resolution (poll.Declared (declaration_of m o.closed now resolution).tally)) (λ x. refl))
 
 -- whoever named or authorised the viewer stays near it, whatever the office asks
-pub office-kept : (viewer : Viewer) (o : OfficeLists) (now : ℕ) (request : Request) → IsSourced viewer o → IsSourced viewer (office_after o now request)
-office-kept viewer o now (asked.Desk what) h = λ id. desk-view (is_sourced_in viewer) o what id (λ meeting. refl) ∙ h id
-office-kept viewer o now (asked.Office at what) h = λ id. sourced-office viewer o now at id what ∙ h id
-office-kept viewer o now (asked.Party at what) h = h
+pub office-preserved : (viewer : Viewer) (o : OfficeLists) (now : ℕ) (request : Request) → IsSourced viewer o → IsSourced viewer (office_after o now request)
+office-preserved viewer o now (asked.Desk what) h = λ id. desk-view (is_sourced_in viewer) o what id (λ meeting. refl) ∙ h id
+office-preserved viewer o now (asked.Office at what) h = λ id. sourced-office viewer o now at id what ∙ h id
+office-preserved viewer o now (asked.Party at what) h = h
 
 -- ---- a register
 
@@ -283,9 +283,9 @@ by-name viewer o at id f g here =
     ]) refl
 
 -- a presence is told where it is the viewer's
-told-presence : (viewer : Viewer) (at id : List ℕ) (meeting : Option Meeting) (who : List ℕ) (n : Near)
+viewed-presence : (viewer : Viewer) (at id : List ℕ) (meeting : Option Meeting) (who : List ℕ) (n : Near)
     → cond (same_name at id) (near_by meeting (near_marked viewer who) n) n ≡ near_shown (cond (same_name who viewer.party) (Some (Present at)) None) id meeting n
-told-presence viewer at id meeting who n =
+viewed-presence viewer at id meeting who n =
     elim (same_name who viewer.party) as (λ b. cond (same_name at id) (near_by meeting (λ m x. record x { presences = cond b (with_last m x.presences) x.presences }) n) n
     ≡ near_shown (cond b (Some (Present at)) None) id meeting n) [
       | true ↦ refl
@@ -304,7 +304,7 @@ near-office viewer o now (asked.Office at (LoadRegister new)) id =
     by-name viewer o at id (λ m. load_ruling m now new) (λ meeting n. near_loaded meeting now new.record_moment (rows_near viewer new.rows) n) (near-register viewer o at now new)
 near-office viewer o now (asked.Office at (Presence who)) id =
     by-name viewer o at id (ruling_on o.closed now (Presence who)) (λ meeting n. near_by meeting (near_marked viewer who) n) (near-presence viewer o at now who)
-    ∙ told-presence viewer at id (public_of o id).meeting who (near_in viewer (meeting_at o id))
+    ∙ viewed-presence viewer at id (public_of o id).meeting who (near_in viewer (meeting_at o id))
 near-office viewer o now (asked.Office at OpenMeeting) id =
     office-change (Unseen (near_in viewer) o id) (meeting_at o at) at (ruling_on o.closed now OpenMeeting) refl (λ m. unseen-change (near_in viewer) o at id (SetOpened now) (λ x. refl))
 near-office viewer o now (asked.Office at (Adjourn appointed)) id =

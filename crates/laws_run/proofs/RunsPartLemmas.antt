@@ -23,7 +23,7 @@ use Rattle.desk_words.specs.declared.records.RegisterRow.{RegisterRow}
 use Rattle.proxy_rules.specs.Holdings.{claim_of, is_ended_of, is_given_by}
 use Rattle.proxy_rules.specs.Parties.{authorises, is_authority_of, is_cast_by, is_demanded_by, is_presence_of, names}
 use Rattle.proxy_rules.specs.Shares.{row_of, shares_of}
-use Rattle.party_views.specs.PartyRows.{authority_rows_in, givers, member_in, no_rows_of, rows_in, rows_of}
+use Rattle.party_views.specs.PartyRows.{authority_rows_in, givers, member_in, no_own_rows, own_rows_in, own_rows}
 use Rattle.party_views.specs.Views.{meeting_at, public_of}
 use Rattle.party_views.specs.declared.own_rows.AuthorityRows.{AuthorityRows}
 use Rattle.party_views.specs.declared.own_rows.MemberRows.{MemberRows}
@@ -108,7 +108,7 @@ authority-alike viewer m a near =
     let row = row-near viewer m.register a.corporation near in λ i. record { authority = a; row = row i }
 
 -- in a meeting where whoever named or authorised the viewer is near it
-rows-of : (viewer : Viewer) (m : MeetingLists) → is_sourced_in viewer (Some m) ≡ true → rows_from viewer (near_in viewer (Some m)) ≡ rows_of m viewer.party
+rows-of : (viewer : Viewer) (m : MeetingLists) → is_sourced_in viewer (Some m) ≡ true → rows_from viewer (near_in viewer (Some m)) ≡ own_rows m viewer.party
 rows-of viewer m h =
     let party = viewer.party in
     let near = near_in viewer (Some m) in
@@ -146,35 +146,35 @@ rows-of viewer m h =
       casts = near.casts;
     }
 
-pub rows-near : (viewer : Viewer) (found : Option MeetingLists) → is_sourced_in viewer found ≡ true → rows_from viewer (near_in viewer found) ≡ rows_in found viewer.party
+pub rows-near : (viewer : Viewer) (found : Option MeetingLists) → is_sourced_in viewer found ≡ true → rows_from viewer (near_in viewer found) ≡ own_rows_in found viewer.party
 rows-near viewer None h =
-    let row = row-near viewer [] viewer.party (near-itself viewer) in λ i. record (no_rows_of viewer.party) { row = row i }
+    let row = row-near viewer [] viewer.party (near-itself viewer) in λ i. record (no_own_rows viewer.party) { row = row i }
 rows-near viewer (Some m) h = rows-of viewer m h
 
 -- the appointments and endings of one who is near, from what is near
 pub giving-near : (viewer : Viewer) (found : Option MeetingLists) (member : List ℕ) → is_near viewer member ≡ true
-    → record (no_rows_of member) {
+    → record (no_own_rows member) {
       given = filter (is_given_by member) (near_in viewer found).appointments;
       ended = filter (is_ended_of member) (near_in viewer found).endings;
-    } ≡ record (no_rows_of member) { given = (rows_in found member).given; ended = (rows_in found member).ended }
+    } ≡ record (no_own_rows member) { given = (own_rows_in found member).given; ended = (own_rows_in found member).ended }
 giving-near viewer None member near = refl
 giving-near viewer (Some m) member near =
     let given = given-near viewer m.appointments member near in
     let ended = ended-near viewer m.endings member near in
-    λ i. record (no_rows_of member) { given = given i; ended = ended i }
+    λ i. record (no_own_rows member) { given = given i; ended = ended i }
 
 -- and how many appointments one who is near gave
 pub counting-near : (viewer : Viewer) (found : Option MeetingLists) (member : List ℕ) → is_near viewer member ≡ true
-    → record (no_rows_of member) { given_count = length (filter (is_given_by member) (near_in viewer found).appointments) } ≡ record (no_rows_of member) { given_count = (rows_in found member).given_count }
+    → record (no_own_rows member) { given_count = length (filter (is_given_by member) (near_in viewer found).appointments) } ≡ record (no_own_rows member) { given_count = (own_rows_in found member).given_count }
 counting-near viewer None member near = refl
 counting-near viewer (Some m) member near =
-    let given = given-near viewer m.appointments member near in λ i. record (no_rows_of member) { given_count = length (given i) }
+    let given = given-near viewer m.appointments member near in λ i. record (no_own_rows member) { given_count = length (given i) }
 
 pub authorising-near : (viewer : Viewer) (found : Option MeetingLists) (member : List ℕ) → is_near viewer member ≡ true
-    → record (no_rows_of member) { persons = filter (is_authority_of member) (near_in viewer found).authorities } ≡ record (no_rows_of member) { persons = (rows_in found member).persons }
+    → record (no_own_rows member) { persons = filter (is_authority_of member) (near_in viewer found).authorities } ≡ record (no_own_rows member) { persons = (own_rows_in found member).persons }
 authorising-near viewer None member near = refl
 authorising-near viewer (Some m) member near =
-    let persons = persons-near viewer m.authorities member near in λ i. record (no_rows_of member) { persons = persons i }
+    let persons = persons-near viewer m.authorities member near in λ i. record (no_own_rows member) { persons = persons i }
 
 -- ---- what is entered
 

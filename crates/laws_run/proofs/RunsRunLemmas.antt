@@ -30,18 +30,18 @@ use Rattle.laws_run.proofs.RunsListLemmas.{implied}
 abbrev shown_is_by : List ℕ → Option Shown → Bool
 shown_is_by party None = false
 shown_is_by party (Some (Whole call)) = is_by party call.caller
-shown_is_by party (Some (Office told after)) = false
+shown_is_by party (Some (Office viewed after)) = false
 
 -- it is exactly where the call is the viewer's
 by-shown : (viewer : Viewer) (after : List ℕ → PublicRecord) (call : Call) → is_by viewer.party call.caller ≡ shown_is_by viewer.party (shown_by viewer after call call.caller)
 by-shown viewer after call = by call.caller refl
   where
-    told : (t : Option ShownRequest) → false ≡ shown_is_by viewer.party (option_map (λ t. Office t after) t)
-    told None = refl
-    told (Some t) = refl
+    viewed : (t : Option ShownRequest) → false ≡ shown_is_by viewer.party (option_map (λ t. Office t after) t)
+    viewed None = refl
+    viewed (Some t) = refl
 
     by : (who : Caller) → call.caller ≡ who → is_by viewer.party who ≡ shown_is_by viewer.party (shown_by viewer after call who)
-    by caller.Office e = told (shown_request viewer call.moment call.request)
+    by caller.Office e = viewed (shown_request viewer call.moment call.request)
     by (caller.Party party) e =
         (elim (same_name party viewer.party) as (λ b. same_name party viewer.party ≡ b
         → b ≡ shown_is_by viewer.party (cond (b || (gives call.request && is_source viewer party)) (Some (Whole call)) None)) [
@@ -89,7 +89,7 @@ unseen-first : (deciding : Deciding) (viewer : Viewer) (one other : OfficeLists)
     → shown_of deciding viewer one call ≡ None → AreIndistinguishable viewer (after_call deciding one call) other
 unseen-first deciding viewer one other call law alike near h = record {
   parts = λ id. law.unseen viewer one call near h id ∙ alike.parts id;
-  first = law.kept viewer one call near alike.first;
+  first = law.preserved viewer one call near alike.first;
   second = alike.second;
 }
 
@@ -98,7 +98,7 @@ unseen-second : (deciding : Deciding) (viewer : Viewer) (one other : OfficeLists
 unseen-second deciding viewer one other call law alike near h = record {
   parts = λ id. alike.parts id ∙ sym (law.unseen viewer other call near h id);
   first = alike.first;
-  second = law.kept viewer other call near alike.second;
+  second = law.preserved viewer other call near alike.second;
 }
 
 seen-both : (deciding : Deciding) (viewer : Viewer) (one other : OfficeLists) (call again : Call) (shown : Shown) → IsolatesSteps deciding → AreIndistinguishable viewer one other
@@ -106,8 +106,8 @@ seen-both : (deciding : Deciding) (viewer : Viewer) (one other : OfficeLists) (c
     → AreIndistinguishable viewer (after_call deciding one call) (after_call deciding other again)
 seen-both deciding viewer one other call again shown law alike near near_again h k = record {
   parts = λ id. law.seen viewer one other call again shown alike near near_again h k id;
-  first = law.kept viewer one call near alike.first;
-  second = law.kept viewer other again near_again alike.second;
+  first = law.preserved viewer one call near alike.first;
+  second = law.preserved viewer other again near_again alike.second;
 }
 
 -- a call of which nothing is shown is not the viewer's

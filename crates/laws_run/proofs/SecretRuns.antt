@@ -38,15 +38,15 @@ Before deciding secret o calls = are_before deciding secret o calls ≡ true
 
 -- the replies to a party in two runs are the same
 abbrev RepliedAlike : Deciding → List ℕ → OfficeLists → OfficeLists → List Call → List Call → Type 0
-RepliedAlike deciding party one other calls kept =
-    replies_to party calls (run_by deciding one calls).replies ≡ replies_to party kept (run_by deciding other kept).replies
+RepliedAlike deciding party one other calls preserved =
+    replies_to party calls (run_by deciding one calls).replies ≡ replies_to party preserved (run_by deciding other preserved).replies
 
 -- they end alike, where the kept calls come before the declaration
-record Ends (deciding : Deciding) (secret : Secret) (one other : OfficeLists) (calls kept : List Call) : Type 0 where
-  office : replies_to_office secret calls (run_by deciding one calls).replies ≡ replies_to_office secret kept (run_by deciding other kept).replies
-  parties : Before deciding secret other kept → (party : List ℕ) → secret.voters party ≡ false → RepliedAlike deciding party one other calls kept
-  before : Before deciding secret one calls → Before deciding secret other kept
-  offices : AreSameBut secret (run_by deciding one calls).office (run_by deciding other kept).office
+record Ends (deciding : Deciding) (secret : Secret) (one other : OfficeLists) (calls preserved : List Call) : Type 0 where
+  office : replies_to_office secret calls (run_by deciding one calls).replies ≡ replies_to_office secret preserved (run_by deciding other preserved).replies
+  parties : Before deciding secret other preserved → (party : List ℕ) → secret.voters party ≡ false → RepliedAlike deciding party one other calls preserved
+  before : Before deciding secret one calls → Before deciding secret other preserved
+  offices : AreSameBut secret (run_by deciding one calls).office (run_by deciding other preserved).office
 
 -- who calls is no party
 voter-calls : (voters : List ℕ → Bool) (who : Caller) → is_voter voters who ≡ true → is_the_office who ≡ false
@@ -68,9 +68,9 @@ other-calls voters caller.Office party by other = by
 other-calls voters (caller.Party name) party by other = ap (λ b. not b) (ap voters (same_name-true name party by) ∙ other)
 
 -- one call more, which is a secret vote and is left out
-more-out : (deciding : Deciding) → KeepsSecretsInSteps deciding → (secret : Secret) (one other : OfficeLists) (call : Call) (calls kept : List Call) → is_secret_call secret call ≡ true
-    → Ends deciding secret (after_call deciding one call) other calls kept → Ends deciding secret one other (call ∷ calls) kept
-more-out deciding law secret one other call calls kept vote ends =
+more-out : (deciding : Deciding) → KeepsSecretsInSteps deciding → (secret : Secret) (one other : OfficeLists) (call : Call) (calls preserved : List Call) → is_secret_call secret call ≡ true
+    → Ends deciding secret (after_call deciding one call) other calls preserved → Ends deciding secret one other (call ∷ calls) preserved
+more-out deciding law secret one other call calls preserved vote ends =
     let voter = first_so (is_voter secret.voters call.caller) (is_vote_in secret.meeting secret.resolution call.request) vote in
     let later = run_by deciding (after_call deciding one call) calls in record {
       office = ap (λ b. cond b (but_result secret call.request (deciding one call).reply ∷ replies_to_office secret calls later.replies) (replies_to_office secret calls later.replies))
@@ -84,22 +84,22 @@ more-out deciding law secret one other call calls kept vote ends =
     }
 
 -- one call more in both
-more-in : (deciding : Deciding) → KeepsSecretsInSteps deciding → (secret : Secret) (one other : OfficeLists) (call : Call) (calls kept : List Call) → AreSameBut secret one other
-    → Ends deciding secret (after_call deciding one call) (after_call deciding other call) calls kept → Ends deciding secret one other (call ∷ calls) (call ∷ kept)
-more-in deciding law secret one other call calls kept same ends = record {
+more-in : (deciding : Deciding) → KeepsSecretsInSteps deciding → (secret : Secret) (one other : OfficeLists) (call : Call) (calls preserved : List Call) → AreSameBut secret one other
+    → Ends deciding secret (after_call deciding one call) (after_call deciding other call) calls preserved → Ends deciding secret one other (call ∷ calls) (call ∷ preserved)
+more-in deciding law secret one other call calls preserved same ends = record {
   office = (elim (is_the_office call.caller) as (λ b. is_the_office call.caller ≡ b
       → cond b (but_result secret call.request (deciding one call).reply ∷ office_one) office_one ≡ cond b (but_result secret call.request (deciding other call).reply ∷ office_other) office_other) [
-        | true ↦ λ office. (let told = law.office secret one other call same office in let rest = ends.office in λ i. told i ∷ rest i)
+        | true ↦ λ office. (let returned = law.office secret one other call same office in let rest = ends.office in λ i. returned i ∷ rest i)
         | false ↦ λ party. ends.office
       ]) refl;
   parties = λ before party other_party.
-      (let here = first_so (not (is_declared_in secret other)) (are_before deciding secret (after_call deciding other call) kept) before in
-      let rest = ends.parties (second_so (not (is_declared_in secret other)) (are_before deciding secret (after_call deciding other call) kept) before) party other_party in
+      (let here = first_so (not (is_declared_in secret other)) (are_before deciding secret (after_call deciding other call) preserved) before in
+      let rest = ends.parties (second_so (not (is_declared_in secret other)) (are_before deciding secret (after_call deciding other call) preserved) before) party other_party in
       (elim (is_by party call.caller) as (λ b. is_by party call.caller ≡ b
       → cond b ((deciding one call).reply ∷ party_one party) (party_one party) ≡ cond b ((deciding other call).reply ∷ party_other party) (party_other party)) [
         | true ↦ λ by. (
-            let told = law.parties secret one other call same (ap not (same-declared secret one other same) ∙ here) (other-calls secret.voters call.caller party by other_party) in
-            λ i. told i ∷ rest i)
+            let returned = law.parties secret one other call same (ap not (same-declared secret one other same) ∙ here) (other-calls secret.voters call.caller party by other_party) in
+            λ i. returned i ∷ rest i)
         | false ↦ λ _. rest
       ]) refl);
   before = λ before. both_true
@@ -112,44 +112,44 @@ more-in deciding law secret one other call calls kept same ends = record {
     office_one = replies_to_office secret calls (run_by deciding (after_call deciding one call) calls).replies
 
     office_other : List Reply
-    office_other = replies_to_office secret kept (run_by deciding (after_call deciding other call) kept).replies
+    office_other = replies_to_office secret preserved (run_by deciding (after_call deciding other call) preserved).replies
 
     party_one : List ℕ → List Reply
     party_one party = replies_to party calls (run_by deciding (after_call deciding one call) calls).replies
 
     party_other : List ℕ → List Reply
-    party_other party = replies_to party kept (run_by deciding (after_call deciding other call) kept).replies
+    party_other party = replies_to party preserved (run_by deciding (after_call deciding other call) preserved).replies
 
 left-out : (deciding : Deciding) → KeepsSecretsInSteps deciding → (secret : Secret) (calls : List Call) (one other : OfficeLists) → AreSameBut secret one other
     → Ends deciding secret one other calls (without (is_secret_call secret) calls)
 left-out deciding law secret [] one other same = record { office = refl; parties = λ before party other_party. refl; before = λ before. refl; offices = same }
 left-out deciding law secret (call ∷ calls) one other same =
-    let kept = without (is_secret_call secret) calls in
-    (elim (is_secret_call secret call) as (λ b. is_secret_call secret call ≡ b → Ends deciding secret one other (call ∷ calls) (cond (not b) (call ∷ kept) kept)) [
-      | true ↦ λ vote. more-out deciding law secret one other call calls kept vote
+    let preserved = without (is_secret_call secret) calls in
+    (elim (is_secret_call secret call) as (λ b. is_secret_call secret call ≡ b → Ends deciding secret one other (call ∷ calls) (cond (not b) (call ∷ preserved) preserved)) [
+      | true ↦ λ vote. more-out deciding law secret one other call calls preserved vote
           (left-out deciding law secret calls (after_call deciding one call) other (law.voted secret one call vote ∙ same))
-      | false ↦ λ none. more-in deciding law secret one other call calls kept same
-          (left-out deciding law secret calls (after_call deciding one call) (after_call deciding other call) (law.kept secret one other call same))
+      | false ↦ λ none. more-in deciding law secret one other call calls preserved same
+          (left-out deciding law secret calls (after_call deciding one call) (after_call deciding other call) (law.preserved secret one other call same))
     ]) refl
 
 -- ---- two lists of which the same calls are kept
 
-pub secrets_kept_in_runs : StepsKeepSecretsInRuns
-secrets_kept_in_runs deciding law secret one other calls again same rest =
-    let kept = without (is_secret_call secret) calls in
+pub secrets_preserved_in_runs : StepsKeepSecretsInRuns
+secrets_preserved_in_runs deciding law secret one other calls again same rest =
+    let preserved = without (is_secret_call secret) calls in
     let first = left-out deciding law secret calls one other same in
-    let second : Ends deciding secret other other again kept = ends-with (sym rest) in record {
+    let second : Ends deciding secret other other again preserved = ends-with (sym rest) in record {
       office = first.office ∙ sym second.office;
       parties = λ before party open_party.
           (let other_party = not-true (secret.voters party) open_party in
-          let kept_before = first.before before in first.parties kept_before party other_party ∙ sym (second.parties kept_before party other_party));
+          let preserved_before = first.before before in first.parties preserved_before party other_party ∙ sym (second.parties preserved_before party other_party));
       offices = first.offices ∙ sym second.offices;
       public = λ none meeting.
           same-public secret (run_by deciding one calls).office (run_by deciding other again).office (first.offices ∙ sym second.offices) (not-true (is_declared_in secret (run_by deciding one calls).office) none) meeting;
     }
   where
-    ends-with : {kept : List Call} → without (is_secret_call secret) again ≡ kept → Ends deciding secret other other again kept
-    ends-with e = subst (λ kept. Ends deciding secret other other again kept) e (left-out deciding law secret again other other refl)
+    ends-with : {preserved : List Call} → without (is_secret_call secret) again ≡ preserved → Ends deciding secret other other again preserved
+    ends-with e = subst (λ preserved. Ends deciding secret other other again preserved) e (left-out deciding law secret again other other refl)
 
 -- what is left out once is left out
 without-again : (test : Call → Bool) (calls : List Call) → without test (without test calls) ≡ without test calls

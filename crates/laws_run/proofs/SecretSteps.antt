@@ -35,32 +35,32 @@ change-alike : Known → (secret : Secret) (o : OfficeLists) (now : ℕ) (who : 
 change-alike known secret o now caller.Office request = ap (λ (a : Answer Change). a.change) (office-alike known.office secret o now request)
 change-alike known secret o now (caller.Party party) request = party-change known.reads secret o now party request
 
-step-kept : Known → (secret : Secret) (one other : OfficeLists) (call : Call) → AreSameBut secret one other → AreSameBut secret (stepped one call) (stepped other call)
-step-kept known secret one other call same =
+step-preserved : Known → (secret : Secret) (one other : OfficeLists) (call : Call) → AreSameBut secret one other → AreSameBut secret (stepped one call) (stepped other call)
+step-preserved known secret one other call same =
     let change = λ (o : OfficeLists). change-alike known secret o call.moment call.caller call.request in
     let left = sym (change one) ∙ ap (λ o. hidden_some secret (decided o call).change) same ∙ change other in
     hidden-after secret one (decided one call).change ∙ (λ i. applied_if_any (same i) (left i)) ∙ sym (hidden-after secret other (decided other call).change)
 
-vote-kept : (secret : Secret) (o : OfficeLists) (now : ℕ) (who : Caller) (request : Request) → (is_voter secret.voters who && is_vote_in secret.meeting secret.resolution request) ≡ true
+vote-preserved : (secret : Secret) (o : OfficeLists) (now : ℕ) (who : Caller) (request : Request) → (is_voter secret.voters who && is_vote_in secret.meeting secret.resolution request) ≡ true
     → AreSameBut secret (stepped o (call_by now who request)) o
-vote-kept secret o now caller.Office request vote = absurd (true≢false (sym vote))
-vote-kept secret o now (caller.Party party) request vote =
+vote-preserved secret o now caller.Office request vote = absurd (true≢false (sym vote))
+vote-preserved secret o now (caller.Party party) request vote =
     hidden-after secret o (decided o (call_by now (caller.Party party) request)).change
     ∙ ap (applied_if_any (office_without secret o)) (vote-hidden secret o now party request
     (first_so (secret.voters party) (is_vote_in secret.meeting secret.resolution request) vote)
     (second_so (secret.voters party) (is_vote_in secret.meeting secret.resolution request) vote))
 
-office-told : Known → (secret : Secret) (one other : OfficeLists) (now : ℕ) (who : Caller) (request : Request) → AreSameBut secret one other → is_the_office who ≡ true
+office-returned : Known → (secret : Secret) (one other : OfficeLists) (now : ℕ) (who : Caller) (request : Request) → AreSameBut secret one other → is_the_office who ≡ true
     → but_result secret request (decided one (call_by now who request)).reply ≡ but_result secret request (decided other (call_by now who request)).reply
-office-told known secret one other now caller.Office request same office =
-    let told = λ (o : OfficeLists). ap (λ (a : Answer Change). a.reply) (office-alike known.office secret o now request) in
-    sym (told one) ∙ ap (λ o. but_result secret request (decided o (call_by now caller.Office request)).reply) same ∙ told other
-office-told known secret one other now (caller.Party party) request same office = absurd (true≢false (sym office))
+office-returned known secret one other now caller.Office request same office =
+    let returned = λ (o : OfficeLists). ap (λ (a : Answer Change). a.reply) (office-alike known.office secret o now request) in
+    sym (returned one) ∙ ap (λ o. but_result secret request (decided o (call_by now caller.Office request)).reply) same ∙ returned other
+office-returned known secret one other now (caller.Party party) request same office = absurd (true≢false (sym office))
 
-party-told : (secret : Secret) (one other : OfficeLists) (now : ℕ) (who : Caller) (request : Request) → AreSameBut secret one other → not (is_declared_in secret one) ≡ true
+party-returned : (secret : Secret) (one other : OfficeLists) (now : ℕ) (who : Caller) (request : Request) → AreSameBut secret one other → not (is_declared_in secret one) ≡ true
     → is_other_party secret.voters who ≡ true → (decided one (call_by now who request)).reply ≡ (decided other (call_by now who request)).reply
-party-told secret one other now caller.Office request same before party = absurd (true≢false (sym party))
-party-told secret one other now (caller.Party party) request same before open_party =
+party-returned secret one other now caller.Office request same before party = absurd (true≢false (sym party))
+party-returned secret one other now (caller.Party party) request same before open_party =
     let none = not-true (is_declared_in secret one) before in
     let none_other = sym (hidden-declared secret other) ∙ ap (is_declared_in secret) (sym same) ∙ hidden-declared secret one ∙ none in
     let other_party = not-true (secret.voters party) open_party in
@@ -69,8 +69,8 @@ party-told secret one other now (caller.Party party) request same before open_pa
 
 pub desk_keeps_secrets : Known → KeepsSecretsInSteps decided
 desk_keeps_secrets known = record {
-  kept = λ secret one other call same. step-kept known secret one other call same;
-  voted = λ secret office call vote. vote-kept secret office call.moment call.caller call.request vote;
-  office = λ secret one other call same office. office-told known secret one other call.moment call.caller call.request same office;
-  parties = λ secret one other call same before party. party-told secret one other call.moment call.caller call.request same before party;
+  preserved = λ secret one other call same. step-preserved known secret one other call same;
+  voted = λ secret office call vote. vote-preserved secret office call.moment call.caller call.request vote;
+  office = λ secret one other call same office. office-returned known secret one other call.moment call.caller call.request same office;
+  parties = λ secret one other call same before party. party-returned secret one other call.moment call.caller call.request same before party;
 }

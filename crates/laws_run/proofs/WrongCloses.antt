@@ -9,7 +9,7 @@ use Rattle.laws_step.specs.WrongAnswers.{office_with}
 use Rattle.laws_run.specs.RunSecrecy.{KeepsSecretsInSteps, VotesAreSecret}
 use Rattle.laws_run.specs.WrongCounts.{ShowsVotes, all_votes, calls_without_votes, closes_after_votes, declares_after_five, four_votes, meeting_of_two, shows_turnout, shows_turnout_of_others, vote_and_call, vote_and_close, vote_and_declare, vote_and_declare_another}
 use Rattle.laws_step.specs.WrongOfficeReads.{lone_office}
-use Rattle.laws_run.proofs.SecretRuns.{secrets_kept_in_runs, votes_left_out}
+use Rattle.laws_run.proofs.SecretRuns.{secrets_preserved_in_runs, votes_left_out}
 
 -- the number that the first reply tells, and whether the last reply is a refusal
 abbrev number_shown : List Reply → ℕ
@@ -23,37 +23,37 @@ is_refused_at other = false
 
 abbrev is_refusal : List Reply → Bool
 is_refusal [] = false
-is_refusal (told ∷ []) = is_refused_at told
-is_refusal (told ∷ replies) = is_refusal replies
+is_refusal (returned ∷ []) = is_refused_at returned
+is_refusal (returned ∷ replies) = is_refusal replies
 
 pub turnout_shown : ShowsVotes shows_turnout (office_with []) vote_and_close
 turnout_shown = record {
   is_one = refl;
-  apart = λ h. (let told : 1 ≡ 0 = ap number_shown h in absurd (omega arith));
+  apart = λ h. (let returned : 1 ≡ 0 = ap number_shown h in absurd (omega arith));
 }
 
 pub others_shown : ShowsVotes shows_turnout_of_others (lone_office meeting_of_two) vote_and_declare_another
 others_shown = record {
   is_one = refl;
-  apart = λ h. (let told : 1 ≡ 0 = ap number_shown h in absurd (omega arith));
+  apart = λ h. (let returned : 1 ≡ 0 = ap number_shown h in absurd (omega arith));
 }
 
 pub turnout_asked : ShowsVotes closes_after_votes (office_with []) vote_and_close
 turnout_asked = record {
   is_one = refl;
-  apart = λ h. (let told : false ≡ true = ap is_refusal h in absurd (true≢false (sym told)));
+  apart = λ h. (let returned : false ≡ true = ap is_refusal h in absurd (true≢false (sym returned)));
 }
 
 pub five_asked : ShowsVotes declares_after_five (office_with four_votes) vote_and_declare
 five_asked = record {
   is_one = refl;
-  apart = λ h. (let told : false ≡ true = ap is_refusal h in absurd (true≢false (sym told)));
+  apart = λ h. (let returned : false ≡ true = ap is_refusal h in absurd (true≢false (sym returned)));
 }
 
 pub votes_asked : ShowsVotes calls_without_votes (office_with []) vote_and_call
 votes_asked = record {
   is_one = refl;
-  apart = λ h. (let told : true ≡ false = ap is_refusal h in absurd (true≢false told));
+  apart = λ h. (let returned : true ≡ false = ap is_refusal h in absurd (true≢false returned));
 }
 
 -- what tells the office of votes breaks the law
@@ -63,4 +63,4 @@ shown_caught deciding office calls tells law = tells.apart (law all_votes office
 -- and so its steps do not all keep votes secret
 pub shown_caught_in_steps : (deciding : Deciding) (office : OfficeLists) (calls : List Call) → ShowsVotes deciding office calls → KeepsSecretsInSteps deciding → ⊥
 shown_caught_in_steps deciding office calls tells steps =
-    shown_caught deciding office calls tells (votes_left_out deciding (secrets_kept_in_runs deciding steps))
+    shown_caught deciding office calls tells (votes_left_out deciding (secrets_preserved_in_runs deciding steps))

@@ -52,7 +52,7 @@ votes_apart = record {
   near = refl;
   near_again = refl;
   same = refl;
-  apart = λ h. (let told : 0 ≡ 1 = ap number_shown h in absurd (omega arith));
+  apart = λ h. (let returned : 0 ≡ 1 = ap number_shown h in absurd (omega arith));
 }
 
 pub numbers_apart : DistinguishesRuns shows_all_numbers the_member (office_with []) member_appoints both_appoint
@@ -62,7 +62,7 @@ numbers_apart = record {
   near = refl;
   near_again = refl;
   same = refl;
-  apart = λ h. (let told : 1 ≡ 2 = ap number_shown h in absurd (omega arith));
+  apart = λ h. (let returned : 1 ≡ 2 = ap number_shown h in absurd (omega arith));
 }
 
 pub turnout_apart : DistinguishesRuns shows_voters_turnout the_member (office_with []) member_votes both_vote
@@ -72,7 +72,7 @@ turnout_apart = record {
   near = refl;
   near_again = refl;
   same = refl;
-  apart = λ h. (let told : 0 ≡ 1 = ap number_shown h in absurd (omega arith));
+  apart = λ h. (let returned : 0 ≡ 1 = ap number_shown h in absurd (omega arith));
 }
 
 -- the votes of all but the member, which the law of secrecy lets it not be told of
@@ -109,9 +109,9 @@ is_refusal (reply.Refused refusal ∷ replies) = true
 is_refusal other = false
 
 -- the number of votes that the reply tells
-abbrev votes_told : List Reply → ℕ
-votes_told (reply.Mine mine ∷ replies) = length mine.casts
-votes_told other = 0
+abbrev votes_returned : List Reply → ℕ
+votes_returned (reply.Mine mine ∷ replies) = length mine.casts
+votes_returned other = 0
 
 pub enough_apart : DistinguishesRuns shows_whether_enough the_member (lone_office meeting_of_unequals) member_demands both_demand
 enough_apart = record {
@@ -120,7 +120,7 @@ enough_apart = record {
   near = refl;
   near_again = refl;
   same = refl;
-  apart = λ h. (let told : false ≡ true = ap is_same h in absurd (true≢false (sym told)));
+  apart = λ h. (let returned : false ≡ true = ap is_same h in absurd (true≢false (sym returned)));
 }
 
 pub shares_apart : DistinguishesRuns shows_votes_on_shares the_member (lone_office meeting_with_proxy) member_asks proxy_votes_first
@@ -131,7 +131,7 @@ shares_apart = record {
   near = refl;
   near_again = refl;
   same = refl;
-  apart = λ h. (let told : 0 ≡ 1 = ap votes_told h in absurd (omega arith));
+  apart = λ h. (let returned : 0 ≡ 1 = ap votes_returned h in absurd (omega arith));
 }
 
 pub limits_apart : DistinguishesRuns limits_all the_member (lone_office meeting_with_authorities) member_authorises both_authorise
@@ -141,7 +141,7 @@ limits_apart = record {
   near = refl;
   near_again = refl;
   same = refl;
-  apart = λ h. (let told : false ≡ true = ap is_refusal h in absurd (true≢false (sym told)));
+  apart = λ h. (let returned : false ≡ true = ap is_refusal h in absurd (true≢false (sym returned)));
 }
 
 -- ---- a place in the register
@@ -174,9 +174,9 @@ public-same id =
     elim (same_name a_meeting id) as (λ b. public_in (cond b (Some alone) None) [] ≡ public_in (cond b (Some both) None) []) [ true ↦ refl | false ↦ refl ]
 
 -- the place that the last reply tells
-abbrev place_told : List Reply → ℕ
-place_told (reply.Mine mine ∷ replies) = option_map_or (λ (row : RegisterRow). row.paid) mine.row 0
-place_told other = 0
+abbrev place_returned : List Reply → ℕ
+place_returned (reply.Mine mine ∷ replies) = option_map_or (λ (row : RegisterRow). row.paid) mine.row 0
+place_returned other = 0
 
 pub place_apart : DistinguishesRuns shows_the_place the_other (lone_office meeting_unloaded) loaded_alone loaded_both
 place_apart = record {
@@ -185,7 +185,7 @@ place_apart = record {
   near = refl;
   near_again = refl;
   same = λ i. Office (Register a_meeting 0 0 (λ member. rows-same member i)) (λ id. public-same id i) ∷ Whole (call_by another Mine) ∷ [];
-  apart = λ h. (let told : 1 ≡ 2 = ap place_told h in absurd (omega arith));
+  apart = λ h. (let returned : 1 ≡ 2 = ap place_returned h in absurd (omega arith));
 }
 
 -- ---- a record moment
@@ -199,9 +199,9 @@ sourced_both id =
     ]
 
 -- the record moment that the last reply shows
-abbrev moment_told : List Reply → ℕ
-moment_told (reply.Notice notice ∷ replies) = notice.record_moment
-moment_told other = 0
+abbrev moment_returned : List Reply → ℕ
+moment_returned (reply.Notice notice ∷ replies) = notice.record_moment
+moment_returned other = 0
 
 pub record_apart : DistinguishesRuns moves_the_record the_member office_of_both asks_notice appoints_elsewhere
 record_apart = record {
@@ -210,7 +210,7 @@ record_apart = record {
   near = refl;
   near_again = refl;
   same = refl;
-  apart = λ h. (let told : 0 ≡ 1 = ap moment_told h in absurd (omega arith));
+  apart = λ h. (let returned : 0 ≡ 1 = ap moment_returned h in absurd (omega arith));
 }
 
 pub rows_apart : DistinguishesRuns shows_the_row the_member office_of_both member_appoints both_appoint_apart
@@ -220,7 +220,7 @@ rows_apart = record {
   near = refl;
   near_again = refl;
   same = refl;
-  apart = λ h. (let told : 1 ≡ 2 = ap number_shown h in absurd (omega arith));
+  apart = λ h. (let returned : 1 ≡ 2 = ap number_shown h in absurd (omega arith));
 }
 
 -- what tells two such lists apart breaks the law

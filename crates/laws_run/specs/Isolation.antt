@@ -40,7 +40,7 @@ pub record IsolatesSteps (deciding : Deciding) : Type 0 where
       → AreIndistinguishable viewer one other
       → IsTrue (is_by viewer.party call.caller)
       → (deciding one call).reply ≡ (deciding other call).reply
-  pub kept : (viewer : Viewer) (office : OfficeLists) (call : Call)
+  pub preserved : (viewer : Viewer) (office : OfficeLists) (call : Call)
       → IsTrue (is_near_call viewer call)
       → IsSourced viewer office
       → IsSourced viewer (after_call deciding office call)

@@ -15,7 +15,7 @@ use Rattle.laws_run.specs.SecretCalls.{AreSameBut, Secret, but_result, is_declar
 -- result where it declares the resolution; and until the resolution is declared, so is any party
 -- that is none of the voters
 pub record KeepsSecretsInSteps (deciding : Deciding) : Type 0 where
-  pub kept : (secret : Secret) (one other : OfficeLists) (call : Call)
+  pub preserved : (secret : Secret) (one other : OfficeLists) (call : Call)
       → AreSameBut secret one other
       → AreSameBut secret (after_call deciding one call) (after_call deciding other call)
   pub voted : (secret : Secret) (office : OfficeLists) (call : Call)

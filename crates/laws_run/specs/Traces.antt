@@ -86,7 +86,7 @@ pub data Shown : Type 0 where
 -- what is shown of a call by its caller, with the public records after it
 abbrev pub shown_by : Viewer → (MeetingName → PublicRecord) → Call → Caller → Option Shown
 shown_by viewer after call caller.Office =
-    option_map (λ told. Office told after) (shown_request viewer call.moment call.request)
+    option_map (λ viewed. Office viewed after) (shown_request viewer call.moment call.request)
 shown_by viewer after call (caller.Party party) =
     if is_shown viewer party call.request then Some (Whole call) else None
 

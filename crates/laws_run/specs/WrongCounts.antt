@@ -188,7 +188,7 @@ all_votes = record { voters = all_parties; meeting = a_meeting; resolution = 1 }
 pub record ShowsVotes (deciding : Deciding) (office : OfficeLists) (calls : List Call)
     : Type 0 where
   pub is_one : IsTrue (is_office office)
-  pub apart : let kept = without (is_secret_call all_votes) calls in
+  pub apart : let preserved = without (is_secret_call all_votes) calls in
       replies_to_office all_votes calls (run_by deciding office calls).replies
-      ≡ replies_to_office all_votes kept (run_by deciding office kept).replies
+      ≡ replies_to_office all_votes preserved (run_by deciding office preserved).replies
       → ⊥

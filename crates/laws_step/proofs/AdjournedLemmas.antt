@@ -6,7 +6,7 @@ use Rattle.std.specs.List.{flat_map, list_all, list_any}
 use Rattle.std.specs.Option.{option_map_or, unwrap_or}
 use Rattle.std.proofs.lemmas.Bool.{and_from, eqb-true}
 use Rattle.std.proofs.lemmas.Bool.Decides.{nat_tests}
-use Rattle.seq.proofs.Kept.{any-filter}
+use Rattle.seq.proofs.Filtered.{any-filter}
 use Rattle.seq.specs.Ordered.{differ_by}
 use Rattle.vocabulary.specs.Names.{same_name}
 use Rattle.vocabulary.specs.Places.{places_that}
@@ -159,13 +159,13 @@ module _ (cutoffs : Cutoffs) (holding : Holding) (number : ℕ) where
   governs-unended stands place =
       elim (has_share holding place) as (λ b. option_map_or (λ (a : Appointment). a.number == number) (cond b (option_and_then (unended cutoffs holding) (last_over cutoffs holding place)) None) false
       ≡ option_map_or (λ (a : Appointment). a.number == number) (cond b (option_and_then (λ (c : Appointment). Some c) (last_over cutoffs holding place)) None) false) [
-        | true ↦ found-unended stands (last_over cutoffs holding place) ∙ sym (kept (last_over cutoffs holding place))
+        | true ↦ found-unended stands (last_over cutoffs holding place) ∙ sym (preserved (last_over cutoffs holding place))
         | false ↦ refl
       ]
     where
-      kept : (found : Option Appointment) → option_map_or (λ (b : Appointment). b.number == number) (option_and_then (λ (c : Appointment). Some c) found) false ≡ option_map_or (λ (b : Appointment). b.number == number) found false
-      kept None = refl
-      kept (Some b) = refl
+      preserved : (found : Option Appointment) → option_map_or (λ (b : Appointment). b.number == number) (option_and_then (λ (c : Appointment). Some c) found) false ≡ option_map_or (λ (b : Appointment). b.number == number) found false
+      preserved None = refl
+      preserved (Some b) = refl
 
   governed-unended : list_any (ends cutoffs number) holding.ended ≡ false → governed_in cutoffs holding number ≡ governed_in cutoffs never_ended number
   governed-unended stands = λ i. runs_that (λ place. governs-unended stands place i) holding.shares
@@ -242,14 +242,14 @@ module _ (m : MeetingLists) (session : ℕ) (closed : List ℕ) (now : ℕ) (a :
         | true ↦ λ some.
             let found = In-any (ends cutoffs a.number) listed some in
             let d = found.0 in
-            let kept = In-filter (is_ended_of a.member) m.endings d found.1.0 in
+            let preserved = In-filter (is_ended_of a.member) m.endings d found.1.0 in
             let number = first_so (d.number == a.number) (nat_lt d.moment cutoffs.endings) found.1.1 in
             let early = second_so (d.number == a.number) (nat_lt d.moment cutoffs.endings) found.1.1 in
-            let name : d.member ≡ e.member = same_name-true d.member a.member kept.passes ∙ sym (same_name-true e.member a.member own) in
+            let name : d.member ≡ e.member = same_name-true d.member a.member preserved.passes ∙ sym (same_name-true e.member a.member own) in
             let same : d.number ≡ e.number = eqb-true d.number a.number number ∙ sym (eqb-true e.number a.number numbered) in
             let like = alike d.member e.member d.number e.number name same in
             let turned = alike e.member d.member e.number d.number (sym name) (sym same) in
-            let one = one-of same_ending m.endings d e apart kept.here here like turned in
+            let one = one-of same_ending m.endings d e apart preserved.here here like turned in
             let less = sooner m.meeting.first.opened now d.moment e.moment (second_so (is_ending_of e a) after (first_so (is_ending_of e a && after) before between)) early in
             absurd (omega (arith, less, ap (λ (x : Ending). x.moment) one))
       ]) refl

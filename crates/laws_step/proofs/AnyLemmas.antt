@@ -42,12 +42,12 @@ any-turned test (x ∷ xs) ys =
     ∙ sym (any-either (test x) (λ y. list_any (λ z. test z y) xs) ys)
 
 -- values that pass one test pass two others alike
-pub any-alike : {X : Type 0} (kept p q : X → Bool) (xs : List X) → list_all kept xs ≡ true → ((x : X) → kept x ≡ true → p x ≡ q x)
+pub any-alike : {X : Type 0} (preserved p q : X → Bool) (xs : List X) → list_all preserved xs ≡ true → ((x : X) → preserved x ≡ true → p x ≡ q x)
     → list_any p xs ≡ list_any q xs
-any-alike kept p q [] all alike = refl
-any-alike kept p q (x ∷ xs) all alike =
-    ap (λ b. b || list_any p xs) (alike x (first_so (kept x) (list_all kept xs) all))
-    ∙ ap (λ b. q x || b) (any-alike kept p q xs (second_so (kept x) (list_all kept xs) all) alike)
+any-alike preserved p q [] all alike = refl
+any-alike preserved p q (x ∷ xs) all alike =
+    ap (λ b. b || list_any p xs) (alike x (first_so (preserved x) (list_all preserved xs) all))
+    ∙ ap (λ b. q x || b) (any-alike preserved p q xs (second_so (preserved x) (list_all preserved xs) all) alike)
 
 -- ---- the value that passes
 

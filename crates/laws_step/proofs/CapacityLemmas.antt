@@ -4,7 +4,7 @@ use Rattle.std.specs.Prelude.{nat_le, nat_lt, Option, Some, None}
 use Rattle.std.specs.List.{list_all, list_any, flat_map}
 use Rattle.std.specs.Option.{option_map_or}
 use Rattle.std.proofs.lemmas.List.Concat.{flat_map-cons}
-use Rattle.seq.proofs.Kept.{any-filter}
+use Rattle.seq.proofs.Filtered.{any-filter}
 use Rattle.std.proofs.Math.Bool.{and_comm}
 use Rattle.std.proofs.lemmas.Bool.{leb-true, lt-ltb, or_right}
 use Rattle.std.specs.Cmp.{first_so, second_so}
@@ -30,8 +30,8 @@ use Rattle.proxy_rules.specs.Holdings.{are_tags, holding_by, holding_of, holding
 use Rattle.proxy_rules.specs.Shares.{is_corporation, is_individual, row_of, shares_of, shares_by}
 use Rattle.proxy_rules.specs.Parties.{authorises, names}
 use Rattle.proxy_rules.specs.declared.meeting_records.Cutoffs.{Cutoffs}
-use Rattle.proxy_rules.proofs.ProxyKeptLemmas.{kept_of}
-use Rattle.seq.proofs.Kept.{any-filter}
+use Rattle.proxy_rules.proofs.ProxyValidLemmas.{valid_of}
+use Rattle.seq.proofs.Filtered.{any-filter}
 use Rattle.proxy_rules.proofs.ProxyNameLemmas.{same_name-sym}
 use Rattle.proxy_rules.proofs.TagLemmas.{are_tags-appointments}
 use Rattle.poll_rules.specs.Quorum.{qualifies}
@@ -46,10 +46,10 @@ use Rattle.party_views.specs.Views.{own_in}
 use Rattle.party_views.specs.declared.own_rows.AuthorityRows.{AuthorityRows}
 use Rattle.laws_step.proofs.AnyLemmas.{any-alike, any-and, any-either, any-turned}
 use Rattle.laws_step.proofs.MemberRows.{row_of-any, rows_differ, rows_held}
-use Rattle.laws_step.proofs.GovernedLemmas.{any-among, governed-by_member, kept-is}
+use Rattle.laws_step.proofs.GovernedLemmas.{any-among, governed-by_member, valid-is}
 use Rattle.laws_step.proofs.StepPlaceLemmas.{runs_that-some, some_place, some_place-and, some_place-any}
 use Rattle.laws_step.proofs.ProxyLemmas.{governing-passing}
-use Rattle.laws_step.proofs.StepSessionLemmas.{acts-told}
+use Rattle.laws_step.proofs.StepSessionLemmas.{acts-shown}
 
 -- ---- the capacities that a row gives
 
@@ -278,8 +278,8 @@ facts m h =
     }
 
 -- what is kept of a member in a meeting is such as an office keeps
-pub kept_in : (m : MeetingLists) (member : List ℕ) → Facts m → is_valid_holding (holding_of m.register m.appointments m.endings member) ≡ true
-kept_in m member f = kept-is (holding_of m.register m.appointments m.endings member) (kept_of m.register m.appointments m.endings member f.rows f.numbered f.tags)
+pub valid_in : (m : MeetingLists) (member : List ℕ) → Facts m → is_valid_holding (holding_of m.register m.appointments m.endings member) ≡ true
+valid_in m member f = valid-is (holding_of m.register m.appointments m.endings member) (valid_of m.register m.appointments m.endings member f.rows f.numbered f.tags)
 
 -- the cutoffs for acts in the last session
 abbrev acts_of : MeetingLists → List ℕ → ℕ → Cutoffs
@@ -296,8 +296,8 @@ own_governs m closed party now f =
     list_any-map (λ (r : Received). not (no_runs (governed_acts last r))) (received_by members closed m.meeting m.polls now) received
     ∙ any-among (λ a. not (no_runs (governed_acts last (received_by members closed m.meeting m.polls now a)))) (governs_some cutoffs m party) received
     (λ a among. ap (λ runs. not (no_runs runs))
-    (acts-told m.meeting closed now (λ by. governed_by members by a.member a.number) last
-    ∙ governed-by_member m cutoffs received a.member a.number (kept_in m a.member f) among))
+    (acts-shown m.meeting closed now (λ by. governed_by members by a.member a.number) last
+    ∙ governed-by_member m cutoffs received a.member a.number (valid_in m a.member f) among))
     ∙ any-filter (governs_some cutoffs m party) (names party) m.appointments
 
 -- a party may demand a poll exactly where it has a capacity

@@ -8,7 +8,7 @@ use Rattle.std.proofs.lemmas.Bool.Decides.{nat_tests}
 use Rattle.std.proofs.lemmas.List.{reverse-append}
 use Rattle.std.proofs.lemmas.List.Folds.{find-append}
 use Rattle.std.proofs.lemmas.Bool.{or_right}
-use Rattle.seq.proofs.Kept.{any-filter}
+use Rattle.seq.proofs.Filtered.{any-filter}
 use Rattle.vocabulary.specs.declared.range.TheConstants.{MOST_PLACES}
 use Rattle.vocabulary.specs.Names.{same_name}
 use Rattle.desk_words.proofs.WordRowLemmas.{same_name-true, same_name-refl}
@@ -24,8 +24,8 @@ use Rattle.party_views.specs.PartyRows.{parties_once, givers, member_in}
 use Rattle.party_views.specs.declared.own_rows.MemberRows.{MemberRows}
 
 -- what an office keeps passes the test of it
-pub kept-is : (holding : Holding) → IsValidHolding holding → is_valid_holding holding ≡ true
-kept-is holding kept = both_true (both_true kept.numbered kept.tagged) (within holding.shares kept.few)
+pub valid-is : (holding : Holding) → IsValidHolding holding → is_valid_holding holding ≡ true
+valid-is holding preserved = both_true (both_true preserved.numbered preserved.tagged) (within holding.shares preserved.few)
   where
     within : (shares : ℕ) → shares ≤ MOST_PLACES → nat_le shares MOST_PLACES ≡ true
     within shares few = grind (arith, nat_tests)
@@ -100,10 +100,10 @@ any-givers member (a ∷ given) = ap (λ b. same_name a.member member || b) (any
 pub governed-by_member : (m : MeetingLists) (cutoffs : Cutoffs) (given : List Appointment) (member : List ℕ) (number : ℕ) → is_valid_holding (holding_of m.register m.appointments m.endings member) ≡ true
     → list_any (is_given_by member) given ≡ true
     → governed_by (map (member_in m) (givers given)) cutoffs member number ≡ governed_in cutoffs (holding_of m.register m.appointments m.endings member) number
-governed-by_member m cutoffs given member number kept among =
+governed-by_member m cutoffs given member number preserved among =
     let holding = holding_of m.register m.appointments m.endings member in
     let there : list_any (of member) (givers given) ≡ true = any-each_once member (map (λ (a : Appointment). a.member) given) ∙ any-givers member given ∙ among in
     let found = rows-found m (givers given) member ∙ ap (λ b. cond b (Some (member_in m member)) None) there in
     ap (λ (o : Option MemberRows). option_map_or (λ (rows : MemberRows). governed_in_holding cutoffs rows.holding number) o []) found
-    ∙ ap (λ b. cond b (governed_in cutoffs (claims_of holding) number) []) (valid_alike holding ∙ kept)
+    ∙ ap (λ b. cond b (governed_in cutoffs (claims_of holding) number) []) (valid_alike holding ∙ preserved)
     ∙ governed_alike cutoffs holding number

@@ -25,7 +25,7 @@ use Rattle.caller_view.specs.AppointmentRulings.{cutoff_in, given_use}
 use Rattle.party_views.specs.Views.{meeting_at, own_in, own_in_some, public_in}
 use Rattle.party_views.specs.declared.views.OwnView.{OwnView}
 use Rattle.party_views.specs.Public.{PublicRecord}
-use Rattle.meeting_core.proofs.OfficeKept.{party_found}
+use Rattle.meeting_core.proofs.OfficePreserved.{party_found}
 use Rattle.laws_step.specs.NamedParties.{Names, NamesOwn, in_appointment, in_authority, in_cast, in_mine, in_reply, in_row, in_view}
 use Rattle.laws_step.specs.Worlds.{party_answer}
 
@@ -45,8 +45,8 @@ mine_named public meeting own now =
     ++ map (λ (a : Authorised). a.corporation) own.authorised ++ map (λ (d : DemandMark). d.party) own.demands ++ flat_map in_cast own.casts
     ++ map (λ (r : Received). r.member) own.received)
 
-names_told : (public : PublicRecord) (meeting : Meeting) (own : OwnView) (now : ℕ) → All (Contains (in_view own)) (in_mine (mine_of public meeting own now))
-names_told public meeting own now =
+names_shown : (public : PublicRecord) (meeting : Meeting) (own : OwnView) (now : ℕ) → All (Contains (in_view own)) (in_mine (mine_of public meeting own now))
+names_shown public meeting own now =
     let names = in_mine (mine_of public meeting own now) in
     let same : own.party ∷ (names ++ []) ≡ in_view own = ap (λ xs. own.party ∷ xs) (append-nil names) ∙ sym (mine_named public meeting own now) in
     subst (λ (view : Names). All (Contains view) names) same (contains_front own.party names [])
@@ -63,7 +63,7 @@ nobody_by (Some r) accepted h = refl
 -- all other replies name nobody
 names_in : (m : MeetingLists) (closed party : List ℕ) (now : ℕ) (id : List ℕ) (what : PartyRequest)
     → All (Contains (in_view (own_in m closed party now))) (in_reply (ruled_answer (party_found (Some m) closed party now id what)).reply)
-names_in m closed party now id Mine = names_told (public_in (Some m) closed) m.meeting (own_in m closed party now) now
+names_in m closed party now id Mine = names_shown (public_in (Some m) closed) m.meeting (own_in m closed party now) now
 names_in m closed party now id what =
     let decision = party_found (Some m) closed party now id what in
     none_named (in_view (own_in m closed party now)) (in_reply (ruled_answer decision).reply) (nobody_by (first_refusal decision.cases) decision.accepted refl)

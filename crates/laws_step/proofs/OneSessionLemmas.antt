@@ -6,7 +6,7 @@ use Rattle.std.specs.List.{list_all, list_any, slice_get}
 use Rattle.std.specs.Option.{option_map_or, unwrap_or}
 use Rattle.std.proofs.Math.Bool.{and-true}
 use Rattle.std.proofs.lemmas.Bool.Decides.{nat_tests}
-use Rattle.seq.proofs.Kept.{all-filter, any-filter}
+use Rattle.seq.proofs.Filtered.{all-filter, any-filter}
 use Rattle.seq.specs.Ordered.{differ_by}
 use Rattle.vocabulary.specs.Names.{same_name}
 use Rattle.vocabulary.specs.Places.{Places}
@@ -105,11 +105,11 @@ only-session x (suc (suc at)) = refl
 
 pub one_read : OneSessionIsReadAlike
 one_read r governs session one =
-    let told : (SessionGoverned → List Places) → Option SessionGoverned → List Places = λ part found. option_map_or part found [] in
+    let shown : (SessionGoverned → List Places) → Option SessionGoverned → List Places = λ part found. option_map_or part found [] in
     let found = ap (λ sessions. at_session sessions session) one ∙ only-session (record { acts = governs; votes = governs }) session in
     record {
-      acts = ap (told (λ (s : SessionGoverned). s.acts)) found;
-      votes = ap (told (λ (s : SessionGoverned). s.votes)) found;
+      acts = ap (shown (λ (s : SessionGoverned). s.acts)) found;
+      votes = ap (shown (λ (s : SessionGoverned). s.votes)) found;
     }
 
 -- ---- presences and demands
@@ -126,11 +126,11 @@ session-last meeting number one is =
     at_one number last is least most = grind (arith, nat_tests, is, least, most)
 
 -- where all values pass, they are those that do
-filter-all : {X : Type 0} (kept test : X → Bool) (xs : List X) → list_all kept xs ≡ true → ((x : X) → kept x ≡ true → test x ≡ true) → filter test xs ≡ xs
-filter-all kept test [] all passes = refl
-filter-all kept test (x ∷ xs) all passes =
-    ap (λ b. cond b (x ∷ filter test xs) (filter test xs)) (passes x (first_so (kept x) (list_all kept xs) all))
-    ∙ ap (λ rest. x ∷ rest) (filter-all kept test xs (second_so (kept x) (list_all kept xs) all) passes)
+filter-all : {X : Type 0} (preserved test : X → Bool) (xs : List X) → list_all preserved xs ≡ true → ((x : X) → preserved x ≡ true → test x ≡ true) → filter test xs ≡ xs
+filter-all preserved test [] all passes = refl
+filter-all preserved test (x ∷ xs) all passes =
+    ap (λ b. cond b (x ∷ filter test xs) (filter test xs)) (passes x (first_so (preserved x) (list_all preserved xs) all))
+    ∙ ap (λ rest. x ∷ rest) (filter-all preserved test xs (second_so (preserved x) (list_all preserved xs) all) passes)
 
 module _ (m : MeetingLists) (closed : List ℕ) (now : ℕ) (h : is_meeting m ≡ true) (one : m.meeting.later ≡ []) where
   abbrev last : ℕ

@@ -5,7 +5,7 @@ use Rattle.std.specs.List.{list_any}
 use Rattle.std.specs.Option.{option_map_or}
 use Rattle.std.specs.Cmp.Derive.{both_true}
 use Rattle.std.proofs.lemmas.Bool.{or_right}
-use Rattle.seq.proofs.Kept.{any-filter}
+use Rattle.seq.proofs.Filtered.{any-filter}
 use Rattle.vocabulary.specs.Names.{same_name}
 use Rattle.desk_words.proofs.WordRowLemmas.{same_name-true, same_name-refl}
 use Rattle.desk_words.specs.Office.{is_meeting}
@@ -22,13 +22,13 @@ use Rattle.proxy_rules.specs.Parties.{authorises, is_authority_of, is_cast_by, i
 use Rattle.proxy_rules.specs.Shares.{row_of, shares_of}
 use Rattle.proxy_rules.specs.declared.meeting_records.Cutoffs.{Cutoffs}
 use Rattle.party_views.specs.OwnViews.{governed_by, known_to_proxy, nothing_of, own_from, received_by}
-use Rattle.party_views.specs.PartyRows.{authority_rows_in, givers, member_in, rows_in, rows_of}
+use Rattle.party_views.specs.PartyRows.{authority_rows_in, givers, member_in, own_rows_in, own_rows}
 use Rattle.party_views.specs.SessionLists.{each_session}
 use Rattle.party_views.specs.Views.{meeting_at, own_in, public_in}
 use Rattle.laws_step.specs.DemandsAndGoverning.{OwnThingsShowWhatGoverns, known_in, shares_governed}
 use Rattle.laws_step.specs.OwnThings.{OwnThingsAreOfTheMeeting, DependsOnOwnAlone, appointment_concerns, authority_concerns, ending_concerns, has_authorised, has_named, row_concerns, what_concerns}
 use Rattle.laws_step.proofs.AnyLemmas.{any-In}
-use Rattle.laws_step.proofs.CapacityLemmas.{facts, kept_in}
+use Rattle.laws_step.proofs.CapacityLemmas.{facts, valid_in}
 use Rattle.laws_step.proofs.GovernedLemmas.{any-each_once, any-givers, governed-by_member, of}
 use Rattle.laws_step.proofs.StepNumberLemmas.{In, In-filter}
 use Rattle.laws_step.proofs.SecrecyLemmas.{filter-within}
@@ -83,8 +83,8 @@ givers-named m party member here =
 -- a corporation of one of the authorities that are the party's authorised it
 authorities-given : (m : MeetingLists) (party : List ℕ) (a : Authority) → In a (filter (authorises party) m.authorities) → has_authorised m party a.corporation ≡ true
 authorities-given m party a here =
-    let kept = In-filter (authorises party) m.authorities a here in
-    any-In (λ (b : Authority). authorises party b && is_authority_of a.corporation b) m.authorities a kept.here (both_true kept.passes (same_name-refl a.corporation))
+    let preserved = In-filter (authorises party) m.authorities a here in
+    any-In (λ (b : Authority). authorises party b && is_authority_of a.corporation b) m.authorities a preserved.here (both_true preserved.passes (same_name-refl a.corporation))
 
 -- ---- the rows of a party
 
@@ -126,7 +126,7 @@ authority-alike m party a given =
     λ i. record { authority = a; row = row i }
 
 -- what concerns a party gives it the rows that the meeting gives it
-rows-alike : (m : MeetingLists) (party : List ℕ) → rows_of (what_concerns party m) party ≡ rows_of m party
+rows-alike : (m : MeetingLists) (party : List ℕ) → own_rows (what_concerns party m) party ≡ own_rows m party
 rows-alike m party =
     let about = what_concerns party m in
     let row = own-row m party in
@@ -174,7 +174,7 @@ own_alone one other closed party now same =
 
 pub of_the_meeting : OwnThingsAreOfTheMeeting
 of_the_meeting office party id now =
-    elim (meeting_at office id) as (λ found. own_from (rows_in found party) (public_in found office.closed) now
+    elim (meeting_at office id) as (λ found. own_from (own_rows_in found party) (public_in found office.closed) now
     ≡ option_map_or (λ m. own_in m office.closed party now) found (nothing_of party)) [
       | Some m ↦ refl
       | None ↦ refl
@@ -187,7 +187,7 @@ governed-alike : (m : MeetingLists) (party : List ℕ) (a : Appointment) (cutoff
     → governed_by (map (member_in m) (givers (filter (names party) m.appointments))) cutoffs a.member a.number ≡ shares_governed m cutoffs a
 governed-alike m party a cutoffs h here =
     let received = filter (names party) m.appointments in
-    governed-by_member m cutoffs received a.member a.number (kept_in m a.member (facts m h))
+    governed-by_member m cutoffs received a.member a.number (valid_in m a.member (facts m h))
     (any-In (is_given_by a.member) received a here (same_name-refl a.member))
 
 pub what_governs : OwnThingsShowWhatGoverns

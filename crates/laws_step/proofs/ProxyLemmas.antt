@@ -14,10 +14,10 @@ use Rattle.desk_words.specs.declared.records.Ending.{Ending}
 use Rattle.proxy_rules.specs.Governing.{governing_in, governs, has_share, is_ended, is_over, last_over, unended}
 use Rattle.proxy_rules.specs.Holdings.{are_numbered_from, holding_with, is_given_by}
 use Rattle.proxy_rules.specs.declared.meeting_records.Cutoffs.{Cutoffs}
-use Rattle.proxy_rules.proofs.ProxyKeptLemmas.{numbered_from-own}
+use Rattle.proxy_rules.proofs.ProxyValidLemmas.{numbered_from-own}
 use Rattle.proxy_rules.proofs.ProxyNameLemmas.{same_name-sym}
 use Rattle.laws_step.proofs.AnyLemmas.{any-none, any-In, In-any, In-find, In-reverse}
-use Rattle.laws_step.proofs.StepNumberLemmas.{In, In-filter, Kept, filter-In}
+use Rattle.laws_step.proofs.StepNumberLemmas.{In, In-filter, Preserved, filter-In}
 
 -- ---- a member and a number name one appointment
 
@@ -60,10 +60,10 @@ same_appointment given a b member numbered here there own_a own_b =
 -- ---- the appointment that governs
 
 -- what is left of what is found is what is found
-kept_is : {X : Type 0} (ended : X → Bool) (o : Option X) (x : X) → option_and_then (λ y. cond (ended y) None (Some y)) o ≡ Some x
+filtered_is : {X : Type 0} (ended : X → Bool) (o : Option X) (x : X) → option_and_then (λ y. cond (ended y) None (Some y)) o ≡ Some x
     → o ≡ Some x
-kept_is ended None x h = h
-kept_is {X} ended (Some y) x h = one (ended y) h
+filtered_is ended None x h = h
+filtered_is {X} ended (Some y) x h = one (ended y) h
   where
     one : (b : Bool) → cond b None (Some y) ≡ Some x → Some y ≡ Some x
     one true h = absurd (cc)
@@ -76,10 +76,10 @@ share_is false o x h = absurd (cc)
 
 -- what governs a share of the member's is an appointment of the member
 governing-own : (cutoffs : Cutoffs) (shares : ℕ) (given : List Appointment) (ended : List Ending) (member : List ℕ) (place : ℕ) (a : Appointment)
-    → governing_in cutoffs (holding_with shares given ended member) place ≡ Some a → Kept (is_given_by member) given a
+    → governing_in cutoffs (holding_with shares given ended member) place ≡ Some a → Preserved (is_given_by member) given a
 governing-own cutoffs shares given ended member place a governing =
     let holding = holding_with shares given ended member in
-    let last = kept_is (is_ended cutoffs holding) (last_over cutoffs holding place) a (share_is (has_share holding place) (option_and_then (unended cutoffs holding) (last_over cutoffs holding place)) a governing) in
+    let last = filtered_is (is_ended cutoffs holding) (last_over cutoffs holding place) a (share_is (has_share holding place) (option_and_then (unended cutoffs holding) (last_over cutoffs holding place)) a governing) in
     In-filter (is_given_by member) given a (In-reverse (filter (is_given_by member) given) a (In-find (is_over cutoffs place) (reverse (filter (is_given_by member) given)) a last))
 
 -- ---- what governs passes a test
@@ -91,7 +91,7 @@ is_found test member found a =
 
 -- some appointment that passes is the one found exactly where the one found passes
 found-passing : (given : List Appointment) (test : Appointment → Bool) (member : List ℕ) (found : Option Appointment) → are_numbered_after [] given ≡ true
-    → ((a : Appointment) → found ≡ Some a → Kept (is_given_by member) given a)
+    → ((a : Appointment) → found ≡ Some a → Preserved (is_given_by member) given a)
     → list_any (is_found test member found) given ≡ option_map_or test found false
 found-passing given test member None numbered each =
     ap (λ passes. list_any passes given) (λ i (a : Appointment). nobody (test a) (same_name member a.member) i)

@@ -7,7 +7,7 @@ use Rattle.std.specs.Option.{option_map_or}
 use Rattle.std.proofs.Math.Bool.{and-false}
 use Rattle.std.proofs.lemmas.Bool.{and_from, eqb-true, leb-true}
 use Rattle.std.proofs.lemmas.Bool.Decides.{nat_tests}
-use Rattle.seq.proofs.Kept.{any-filter, found-passes}
+use Rattle.seq.proofs.Filtered.{any-filter, found-passes}
 use Rattle.vocabulary.specs.Names.{same_name}
 use Rattle.vocabulary.specs.Places.{Places, holds}
 use Rattle.vocabulary.specs.declared.kinds.Capacity.TheVariants.{Proxy}
@@ -47,7 +47,7 @@ use Rattle.laws_step.proofs.StepNumberLemmas.{In}
 use Rattle.laws_step.proofs.OwnThingsLemmas.{what_governs}
 use Rattle.laws_step.proofs.StepPlaceLemmas.{some_place, some_place-and, some_place-any, some_place-found, some_place-is}
 use Rattle.laws_step.proofs.ProxyLemmas.{governing-passing}
-use Rattle.laws_step.proofs.StepSessionLemmas.{in_session, votes-told}
+use Rattle.laws_step.proofs.StepSessionLemmas.{in_session, votes-shown}
 
 -- ---- what is found
 
@@ -61,17 +61,17 @@ found-made test make (x ∷ xs) =
     ]
 
 -- what is found, and is kept, is found among what is kept
-found-kept : {X : Type 0} (test keeps : X → Bool) (xs : List X) (x : X) → find test xs ≡ Some x → keeps x ≡ true → find test (filter keeps xs) ≡ Some x
-found-kept test keeps [] x found kept = found
-found-kept test keeps (y ∷ ys) x found kept =
+found-filtered : {X : Type 0} (test keeps : X → Bool) (xs : List X) (x : X) → find test xs ≡ Some x → keeps x ≡ true → find test (filter keeps xs) ≡ Some x
+found-filtered test keeps [] x found preserved = found
+found-filtered test keeps (y ∷ ys) x found preserved =
     (elim (test y) as (λ b. test y ≡ b → cond b (Some y) (find test ys) ≡ Some x → find test (filter keeps (y ∷ ys)) ≡ Some x) [
       | true ↦ λ passes e.
           let same : y ≡ x = cc in
-          ap (λ b. find test (cond b (y ∷ filter keeps ys) (filter keeps ys))) (ap keeps same ∙ kept)
+          ap (λ b. find test (cond b (y ∷ filter keeps ys) (filter keeps ys))) (ap keeps same ∙ preserved)
           ∙ ap (λ b. cond b (Some y) (find test (filter keeps ys))) passes
           ∙ ap (λ z. Some z) same
       | false ↦ λ fails e.
-          let rest = found-kept test keeps ys x e kept in
+          let rest = found-filtered test keeps ys x e preserved in
           (elim (keeps y) as (λ b. find test (cond b (y ∷ filter keeps ys) (filter keeps ys)) ≡ Some x) [
             | true ↦ ap (λ b. cond b (Some y) (find test (filter keeps ys))) fails ∙ rest
             | false ↦ rest
@@ -93,7 +93,7 @@ module _ (meeting : Meeting) (closed : List ℕ) (now : ℕ) (governed : Cutoffs
   by_the_cutoffs : (a : Appointment) (polls : List Poll) (resolution session : ℕ) (found : Option Poll) → poll_on polls resolution ≡ found
       → governed_for closed (vote_on session found) (known a (map for_late (filter (is_late_poll closed) polls)))
       ≡ governed (cutoffs_of meeting (vote_on session found) closed now)
-  by_the_cutoffs a polls resolution session None e = votes-told meeting closed now governed session
+  by_the_cutoffs a polls resolution session None e = votes-shown meeting closed now governed session
   by_the_cutoffs a polls resolution session (Some p) e =
       let on : p.resolution ≡ resolution = eqb-true p.resolution resolution (found-passes (λ (q : Poll). q.resolution == resolution) polls p e) in
       let there : poll_on polls p.resolution ≡ Some p = ap (poll_on polls) on ∙ e in
@@ -106,9 +106,9 @@ module _ (meeting : Meeting) (closed : List ℕ) (now : ℕ) (governed : Cutoffs
         | true ↦ λ late.
             ap (λ o. option_map_or (λ (q : PollGoverned). q.governs) o [])
             (found-made (λ (q : PollGoverned). q.resolution == p.resolution) for_late (filter (is_late_poll closed) polls)
-            ∙ ap (option_map for_late) (found-kept (λ (q : Poll). q.resolution == p.resolution) (is_late_poll closed) polls p there late))
+            ∙ ap (option_map for_late) (found-filtered (λ (q : Poll). q.resolution == p.resolution) (is_late_poll closed) polls p there late))
             ∙ ap (λ b. governed (cond b (late_cutoffs p closed) (session_cutoffs own own closed now))) late
-        | false ↦ λ timely. votes-told meeting closed now governed p.session
+        | false ↦ λ timely. votes-shown meeting closed now governed p.session
       ]) refl
 
 -- ---- runs
@@ -118,14 +118,14 @@ module _ (cutoffs : Cutoffs) (holding : Holding) (number : ℕ) where
   runs-hold : (place : ℕ) → list_any (λ (run : Places). holds run place) (governed_in cutoffs holding number) ≡ governs cutoffs holding number place
   runs-hold place =
       are_in-runs_that (governs cutoffs holding number) holding.shares place
-      ∙ elim (has_share holding place) as (λ b. (b && tells (cond b (option_and_then (unended cutoffs holding) (last_over cutoffs holding place)) None))
-      ≡ tells (cond b (option_and_then (unended cutoffs holding) (last_over cutoffs holding place)) None)) [
+      ∙ elim (has_share holding place) as (λ b. (b && shows (cond b (option_and_then (unended cutoffs holding) (last_over cutoffs holding place)) None))
+      ≡ shows (cond b (option_and_then (unended cutoffs holding) (last_over cutoffs holding place)) None)) [
         | true ↦ refl
         | false ↦ refl
       ]
     where
-      tells : Option Appointment → Bool
-      tells found = option_map_or (λ (a : Appointment). a.number == number) found false
+      shows : Option Appointment → Bool
+      shows found = option_map_or (λ (a : Appointment). a.number == number) found false
 
   -- each run has a place
   run_up : (runs : List Places) (run : Places) → are_parted runs ≡ true → In run runs → nat_le run.from run.to ≡ true
@@ -199,19 +199,19 @@ module _ (m : MeetingLists) (closed party : List ℕ) (now resolution : ℕ) whe
       → is_uninstructed (own_in m closed party now) (governed_for closed (use_in m closed resolution)) resolution
       ≡ not (list_any (is_instructed_in m closed now party resolution) m.register)
   instructed-rules h =
-      let told : Appointment → Bool = λ a. is_some (instructed_on resolution a.instructions) in
+      let shown : Appointment → Bool = λ a. is_some (instructed_on resolution a.instructions) in
       let f = facts m h in
       ap not
       (known-any (instructs (governed_for closed (use_in m closed resolution)) resolution) h
       ∙ ap (λ test. list_any test m.appointments)
       (λ i (a : Appointment).
-      (ap (λ runs. names party a && (told a && not (no_runs runs))) (known-governs a)
-      ∙ joined-and (names party a) (told a) (not (no_runs (shares_governed m (cutoffs_on m closed now resolution) a)))) i)
+      (ap (λ runs. names party a && (shown a && not (no_runs runs))) (known-governs a)
+      ∙ joined-and (names party a) (shown a) (not (no_runs (shares_governed m (cutoffs_on m closed now resolution) a)))) i)
       ∙ passing-rows (cutoffs_on m closed now resolution) m party (instructs_it party resolution) f.rows f.numbered)
 
 module _ (m : MeetingLists) (closed party : List ℕ) (now : ℕ) (new : NewCast) where
-  abbrev told_governs : Governs
-  told_governs = governed_for closed (use_in m closed new.resolution)
+  abbrev shown_governs : Governs
+  shown_governs = governed_for closed (use_in m closed new.resolution)
 
   -- the cutoffs of the poll of the vote
   abbrev cutoffs_for : Cutoffs
@@ -240,16 +240,16 @@ module _ (m : MeetingLists) (closed party : List ℕ) (now : ℕ) (new : NewCast
       governing-passing cutoffs_for (shares_by m.register new.member) m.appointments m.endings new.member test place (facts m h).numbered
 
   -- an appointment governs the place by what is known of it
-  governs-known : (a : Appointment) (place : ℕ) → governs_at told_governs new place (known_in m closed now a) ≡ own_governs a place
+  governs-known : (a : Appointment) (place : ℕ) → governs_at shown_governs new place (known_in m closed now a) ≡ own_governs a place
   governs-known a place =
       ap (λ runs. same_name a.member new.member && list_any (λ (run : Places). holds run place) runs) (known-governs m closed party now new.resolution a)
       ∙ ap (λ b. same_name a.member new.member && b) (runs-hold cutoffs_for (holding_of m.register m.appointments m.endings a.member) a.number place)
       ∙ own-shares a place
 
   governed-rules : (place : ℕ) → is_meeting m ≡ true
-      → is_governed (own_in m closed party now).received told_governs new place ≡ option_map_or (names party) (governing_for m closed now new place) false
+      → is_governed (own_in m closed party now).received shown_governs new place ≡ option_map_or (names party) (governing_for m closed now new place) false
   governed-rules place h =
-      known-any m closed party now new.resolution (governs_at told_governs new place) h
+      known-any m closed party now new.resolution (governs_at shown_governs new place) h
       ∙ ap (λ test. list_any test m.appointments) (λ i (a : Appointment). names party a && governs-known a place i)
       ∙ passing (names party) place h
 
@@ -272,7 +272,7 @@ module _ (m : MeetingLists) (closed party : List ℕ) (now : ℕ) (new : NewCast
 
   -- an appointment forbids a vote by what is known of it where it governs some place of the range
   forbids-known : (a : Appointment) → 1 ≤ new.from → new.from ≤ new.to
-      → (names party a && forbids told_governs new (known_in m closed now a))
+      → (names party a && forbids shown_governs new (known_in m closed now a))
       ≡ some_place (λ place. names party a && ((same_name a.member new.member && otherwise a) && (nat_le new.from place && governs_there a place))) new.to
   forbids-known a one up =
       let own = same_name a.member new.member && otherwise a in
@@ -294,10 +294,10 @@ module _ (m : MeetingLists) (closed party : List ℕ) (now : ℕ) (new : NewCast
       ∙ ap (λ b. nat_le new.from place && b) (passing (binds_otherwise party new) place h)
 
   bound-rules : is_meeting m ≡ true → 1 ≤ new.from → new.from ≤ new.to
-      → is_against (own_in m closed party now) told_governs new Proxy
+      → is_against (own_in m closed party now) shown_governs new Proxy
       ≡ some_pass (λ place. option_map_or (binds_otherwise party new) (governing_for m closed now new place) false) new.from new.to
   bound-rules h one up =
-      known-any m closed party now new.resolution (forbids told_governs new) h
+      known-any m closed party now new.resolution (forbids shown_governs new) h
       ∙ ap (λ test. list_any test m.appointments) (λ i (a : Appointment). forbids-known a one up i)
       ∙ some_place-any
       (λ a place. names party a && ((same_name a.member new.member && otherwise a) && (nat_le new.from place && governs_there a place)))

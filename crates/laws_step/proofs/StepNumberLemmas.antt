@@ -18,14 +18,14 @@ filter-In test (y ∷ ys) x h passes =
     ]) refl
 
 -- what a test keeps stands in the list, and passes
-pub record Kept {X : Type 0} (test : X → Bool) (xs : List X) (x : X) : Type 0 where
+pub record Preserved {X : Type 0} (test : X → Bool) (xs : List X) (x : X) : Type 0 where
   pub here : In x xs
   pub passes : test x ≡ true
 
-pub In-filter : {X : Type 0} (test : X → Bool) (xs : List X) (x : X) → In x (filter test xs) → Kept test xs x
+pub In-filter : {X : Type 0} (test : X → Bool) (xs : List X) (x : X) → In x (filter test xs) → Preserved test xs x
 In-filter test [] x h = absurd h
 In-filter {X} test (y ∷ ys) x h =
-    (elim (test y) as (λ b. test y ≡ b → In x (cond b (y ∷ filter test ys) (filter test ys)) → Kept test (y ∷ ys) x) [
+    (elim (test y) as (λ b. test y ≡ b → In x (cond b (y ∷ filter test ys) (filter test ys)) → Preserved test (y ∷ ys) x) [
       | true ↦ λ e stands. (elim stands [
         | inl same ↦ record { here = inl same; passes = ap test (sym same) ∙ e }
         | inr later ↦ (let k = In-filter test ys x later in record { here = inr k.here; passes = k.passes })

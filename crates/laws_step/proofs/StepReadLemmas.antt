@@ -18,8 +18,8 @@ use Rattle.proxy_rules.specs.Holdings.{is_given_by}
 use Rattle.caller_view.specs.PartyRulings.{party_ruling}
 use Rattle.party_views.specs.OwnViews.{holds_as_individual, nothing_of, own_by, own_from}
 use Rattle.party_views.specs.Public.{PublicRecord}
-use Rattle.party_views.specs.RowsRead.{appointments_read, authorities_read, cast_on, members_read, own_read, polls_read, row_read, rows_read}
-use Rattle.party_views.specs.PartyRows.{no_rows_of, rows_in}
+use Rattle.party_views.specs.RowsRead.{appointments_read, authorities_read, cast_on, gave_one_of, is_instructing, members_read, own_read, polls_read, row_read, own_rows_read}
+use Rattle.party_views.specs.PartyRows.{no_own_rows, own_rows_in}
 use Rattle.party_views.specs.Views.{own_in, public_in, meeting_at}
 use Rattle.party_views.specs.declared.own_rows.AuthorityRows.{AuthorityRows}
 use Rattle.party_views.specs.declared.own_rows.MemberRows.{MemberRows}
@@ -66,11 +66,11 @@ unless-again true xs = refl
 unless-again false xs = refl
 
 -- of the rows that are read the same are read
-rows-again : (asked : PartyRequest) (rows : OwnRows) → rows_read asked (rows_read asked rows) ≡ rows_read asked rows
+rows-again : (asked : PartyRequest) (rows : OwnRows) → own_rows_read asked (own_rows_read asked rows) ≡ own_rows_read asked rows
 rows-again Mine rows = refl
 rows-again (Demand resolution) rows =
     let individual = holds_as_individual rows.row in
-    λ i. record (rows_read (Demand resolution) rows) {
+    λ i. record (own_rows_read (Demand resolution) rows) {
       received = unless-again individual rows.received i;
       members = unless-again individual rows.members i;
       authorised = unless-again individual rows.authorised i;
@@ -81,30 +81,39 @@ rows-again (Cast new) rows =
     let members = members-again new rows.members new.capacity in
     let authorised = authorities-again new rows.authorised new.capacity in
     let casts = casts-again new.resolution rows.casts in
-    λ i. record (no_rows_of rows.party) {
+    λ i. record (no_own_rows rows.party) {
       row = row i;
       received = received i;
       members = members i;
       authorised = authorised i;
       casts = casts i;
     }
-rows-again (Instructed resolution) rows = λ i. record (rows_read (Instructed resolution) rows) { casts = casts-again resolution rows.casts i }
+rows-again (Instructed resolution) rows =
+    let received = filter-again (is_instructing resolution) rows.received in
+    let given = filter (is_instructing resolution) rows.received in
+    let members : filter (gave_one_of (filter (is_instructing resolution) given)) (filter (gave_one_of given) rows.members) ≡ filter (gave_one_of given) rows.members =
+    ap (λ those. filter (gave_one_of those) (filter (gave_one_of given) rows.members)) received ∙ filter-again (gave_one_of given) rows.members in
+    λ i. record (own_rows_read (Instructed resolution) rows) {
+      received = received i;
+      members = members i;
+      casts = casts-again resolution rows.casts i;
+    }
 rows-again other rows = refl
 
 -- and they are the same party's
-party-read : (asked : PartyRequest) (rows : OwnRows) → (rows_read asked rows).party ≡ rows.party
+party-read : (asked : PartyRequest) (rows : OwnRows) → (own_rows_read asked rows).party ≡ rows.party
 party-read Mine rows = refl
 party-read other rows = refl
 
 -- what is read of own things that are made of the rows that are read
 read-alike : (rows : OwnRows) (public : PublicRecord) (now : ℕ) (asked : PartyRequest)
-    → own_read asked (own_from (rows_read asked rows) public now) ≡ own_read asked (own_from rows public now)
+    → own_read asked (own_from (own_rows_read asked rows) public now) ≡ own_read asked (own_from rows public now)
 read-alike rows public now asked =
-    elim (public.meeting) as (λ found. own_read asked (option_map_or (λ meeting. own_by (rows_read asked rows) public.closed meeting public.polls now) found (nothing_of (rows_read asked rows).party))
+    elim (public.meeting) as (λ found. own_read asked (option_map_or (λ meeting. own_by (own_rows_read asked rows) public.closed meeting public.polls now) found (nothing_of (own_rows_read asked rows).party))
     ≡ own_read asked (option_map_or (λ meeting. own_by rows public.closed meeting public.polls now) found (nothing_of rows.party))) [
       | None ↦ ap (λ party. own_read asked (nothing_of party)) (party-read asked rows)
       | Some meeting ↦
-          sym (own-read asked (rows_read asked rows) public.closed meeting public.polls now)
+          sym (own-read asked (own_rows_read asked rows) public.closed meeting public.polls now)
           ∙ ap (λ read. own_by read public.closed meeting (polls_read asked public.polls) now) (rows-again asked rows)
           ∙ own-read asked rows public.closed meeting public.polls now
     ]
@@ -114,14 +123,14 @@ own_enough public own now asked = ap ruled_answer (ruling-own_read public own no
 
 pub rows_enough : RowsReadAreEnough
 rows_enough rows public now asked =
-    sym (own_enough public (own_from (rows_read asked rows) public now) now asked)
+    sym (own_enough public (own_from (own_rows_read asked rows) public now) now asked)
     ∙ ap (λ own. ruled_answer (party_ruling public own now asked)) (read-alike rows public now asked)
     ∙ own_enough public (own_from rows public now) now asked
 
 pub own_of_rows : RowsGiveOwnThings
 own_of_rows office meeting rows public now same known =
     ap (λ made. own_from made public now) same
-    ∙ ap (λ record_of. own_from (rows_in (meeting_at office meeting) rows.party) record_of now) known
+    ∙ ap (λ record_of. own_from (own_rows_in (meeting_at office meeting) rows.party) record_of now) known
 
 -- ---- a wrong reading
 

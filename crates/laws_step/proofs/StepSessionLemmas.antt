@@ -27,18 +27,18 @@ module _ (meeting : Meeting) (closed : List ℕ) (now : ℕ) (governed : Cutoffs
   in_session number = record { acts = governed (cutoffs_of meeting (Acts number) closed now); votes = governed (cutoffs_of meeting (Votes number) closed now) }
 
   -- what is told of a session that is looked up
-  abbrev told_of : (SessionGoverned → List Places) → Option SessionGoverned → List Places
-  told_of part found = option_map_or part (option_or found (Some (in_session 1))) []
+  abbrev shown_of : (SessionGoverned → List Places) → Option SessionGoverned → List Places
+  shown_of part found = option_map_or part (option_or found (Some (in_session 1))) []
 
   -- what is governed by a session that is looked up
   abbrev by : (Session → Session) → Option Session → List Places
   by ended_by found = let s = unwrap_or found meeting.first in governed (session_cutoffs s (ended_by s) closed now)
 
   -- for acts in a session, which may be none of the meeting
-  pub acts-told : (number : ℕ) → option_map_or (λ (s : SessionGoverned). s.acts) (at_session (each_session in_session meeting) number) [] ≡ governed (cutoffs_of meeting (Acts number) closed now)
-  acts-told zero = refl
-  acts-told (suc at) =
-      let acts = told_of (λ (s : SessionGoverned). s.acts) in
+  pub acts-shown : (number : ℕ) → option_map_or (λ (s : SessionGoverned). s.acts) (at_session (each_session in_session meeting) number) [] ≡ governed (cutoffs_of meeting (Acts number) closed now)
+  acts-shown zero = refl
+  acts-shown (suc at) =
+      let acts = shown_of (λ (s : SessionGoverned). s.acts) in
       let there : 1 + at ≡ suc at = omega arith in
       ap acts (at-numbered in_session 1 at (sessions_of meeting) ∙ ap (λ number. option_map (λ (s : Session). in_session number) (slice_get (sessions_of meeting) at)) there)
       ∙ (elim (slice_get (sessions_of meeting) at) as (λ found. slice_get (sessions_of meeting) at ≡ found
@@ -48,10 +48,10 @@ module _ (meeting : Meeting) (closed : List ℕ) (now : ℕ) (governed : Cutoffs
       ]) refl
 
   -- and for votes
-  pub votes-told : (number : ℕ) → option_map_or (λ (s : SessionGoverned). s.votes) (at_session (each_session in_session meeting) number) [] ≡ governed (cutoffs_of meeting (Votes number) closed now)
-  votes-told zero = refl
-  votes-told (suc at) =
-      let votes = told_of (λ (s : SessionGoverned). s.votes) in
+  pub votes-shown : (number : ℕ) → option_map_or (λ (s : SessionGoverned). s.votes) (at_session (each_session in_session meeting) number) [] ≡ governed (cutoffs_of meeting (Votes number) closed now)
+  votes-shown zero = refl
+  votes-shown (suc at) =
+      let votes = shown_of (λ (s : SessionGoverned). s.votes) in
       let there : 1 + at ≡ suc at = omega arith in
       ap votes (at-numbered in_session 1 at (sessions_of meeting) ∙ ap (λ number. option_map (λ (s : Session). in_session number) (slice_get (sessions_of meeting) at)) there)
       ∙ (elim (slice_get (sessions_of meeting) at) as (λ found. slice_get (sessions_of meeting) at ≡ found

@@ -17,7 +17,7 @@ use Rattle.caller_view.specs.PartyRulings.{party_ruling}
 use Rattle.party_views.specs.Views.{meeting_at, own_in_some, polls_in, public_of}
 use Rattle.party_views.specs.declared.views.OwnView.{OwnView}
 use Rattle.desk_words.specs.Changes.{applied_if_any, change_at, changed}
-use Rattle.meeting_core.proofs.OfficeKept.{entered_meeting, entered_polls}
+use Rattle.meeting_core.proofs.OfficePreserved.{entered_meeting, entered_polls}
 use Rattle.meeting_core.proofs.RulingLemmas.{settled_within}
 use Rattle.laws_step.specs.Worlds.{LeavesThePublicRecord, ReadsTheViews, party_answer}
 

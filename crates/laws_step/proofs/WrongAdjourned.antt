@@ -20,8 +20,8 @@ until appointments = record { appointments = appointments; endings = 1 }
 role-taken : (n : ℕ) → let m = meeting_ended_between in qualifies (roles_of (until n) m.register m.appointments m.endings m.authorities a_proxy) ≡ false
 role-taken n = rw (counts n) refl
 
-role-kept : (n : ℕ) → let m = meeting_ended_between in qualifies (roles_of (until n) m.register m.appointments (ended_before 0 m.endings) m.authorities a_proxy) ≡ true
-role-kept n = rw (counts n) refl
+role-preserved : (n : ℕ) → let m = meeting_ended_between in qualifies (roles_of (until n) m.register m.appointments (ended_before 0 m.endings) m.authorities a_proxy) ≡ true
+role-preserved n = rw (counts n) refl
 
 pub role_taken : TakesARole votes_cutoffs meeting_ended_between 2 a_proxy
 role_taken = record {
@@ -29,7 +29,7 @@ role_taken = record {
   opened = refl;
   apart = λ h.
       let n = (votes_cutoffs meeting_ended_between.meeting 2 [] 0).appointments in
-      absurd (true≢false (sym (role-kept n) ∙ sym (ap qualifies h) ∙ role-taken n));
+      absurd (true≢false (sym (role-preserved n) ∙ sym (ap qualifies h) ∙ role-taken n));
 }
 
 pub caught : LaterEndingsTakeNoRole votes_cutoffs → ⊥

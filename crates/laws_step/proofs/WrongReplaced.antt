@@ -61,7 +61,7 @@ number_more = record {
     corporations = All-nil _;
     rest = refl;
   };
-  apart = λ h. (let told : 2 ≡ 3 = ap (λ (own : OwnView). of_first (λ known. known.moment) own.received) h in absurd (omega arith));
+  apart = λ h. (let shown : 2 ≡ 3 = ap (λ (own : OwnView). of_first (λ known. known.moment) own.received) h in absurd (omega arith));
 }
 
 pub proxy_more : ShowsMoreThanIsLeft (shown_with proxy_shown) replaced_once replaced_by_one_else a_proxy
@@ -76,7 +76,7 @@ proxy_more = record {
     corporations = All-nil _;
     rest = refl;
   };
-  apart = λ h. (let told : 66 ≡ 81 = ap (λ (own : OwnView). of_first (λ known. first_letter known.member) own.received) h in absurd (omega arith));
+  apart = λ h. (let shown : 66 ≡ 81 = ap (λ (own : OwnView). of_first (λ known. first_letter known.member) own.received) h in absurd (omega arith));
 }
 
 pub places_more : ShowsMoreThanIsLeft (shown_with places_shown) replaced_once replaced_over_more a_proxy
@@ -91,7 +91,7 @@ places_more = record {
     corporations = All-nil _;
     rest = refl;
   };
-  apart = λ h. (let told : 1 ≡ 2 = ap (λ (own : OwnView). of_first (λ known. known.range.to) own.received) h in absurd (omega arith));
+  apart = λ h. (let shown : 1 ≡ 2 = ap (λ (own : OwnView). of_first (λ known. known.range.to) own.received) h in absurd (omega arith));
 }
 
 pub row_more : ShowsMoreThanIsLeft row_shown replaced_once replaced_under_another_name a_proxy
@@ -106,7 +106,7 @@ row_more = record {
     corporations = All-nil _;
     rest = refl;
   };
-  apart = λ h. (let told : 0 ≡ 1 = ap (λ (own : OwnView). pence_of own.row) h in absurd (omega arith));
+  apart = λ h. (let shown : 0 ≡ 1 = ap (λ (own : OwnView). pence_of own.row) h in absurd (omega arith));
 }
 
 -- what tells two such meetings apart breaks the law

@@ -11,7 +11,7 @@ votes_more = record {
   first = refl;
   second = refl;
   agree = refl;
-  apart = λ h. (let told : 0 ≡ 1 = ap (λ (own : OwnView). length own.casts) h in absurd (omega arith));
+  apart = λ h. (let shown : 0 ≡ 1 = ap (λ (own : OwnView). length own.casts) h in absurd (omega arith));
 }
 
 pub presence_more : ShowsMore presence_of_any quiet_meeting meeting_with_presence a_member
@@ -19,7 +19,7 @@ presence_more = record {
   first = refl;
   second = refl;
   agree = refl;
-  apart = λ h. (let told : 0 ≡ 1 = ap (λ (own : OwnView). length own.presences) h in absurd (omega arith));
+  apart = λ h. (let shown : 0 ≡ 1 = ap (λ (own : OwnView). length own.presences) h in absurd (omega arith));
 }
 
 pub demands_more : ShowsMore demands_of_all quiet_meeting meeting_with_demand a_member
@@ -27,7 +27,7 @@ demands_more = record {
   first = refl;
   second = refl;
   agree = refl;
-  apart = λ h. (let told : 0 ≡ 1 = ap (λ (own : OwnView). length own.demands) h in absurd (omega arith));
+  apart = λ h. (let shown : 0 ≡ 1 = ap (λ (own : OwnView). length own.demands) h in absurd (omega arith));
 }
 
 -- what tells two such meetings apart breaks the law

@@ -10,8 +10,8 @@ use Rattle.desk_words.specs.declared.request.PartyRequest.{PartyRequest}
 use Rattle.caller_view.specs.PartyRulings.{party_ruling}
 use Rattle.party_views.specs.OwnViews.{own_from}
 use Rattle.party_views.specs.Public.{PublicRecord}
-use Rattle.party_views.specs.RowsRead.{rows_read}
-use Rattle.party_views.specs.PartyRows.{rows_in}
+use Rattle.party_views.specs.RowsRead.{own_rows_read}
+use Rattle.party_views.specs.PartyRows.{own_rows_in}
 use Rattle.party_views.specs.Views.{meeting_at, own_of, public_of}
 use Rattle.party_views.specs.declared.own_rows.OwnRows.{OwnRows}
 use Rattle.party_views.specs.declared.views.OwnView.{OwnView}
@@ -35,7 +35,7 @@ ReadsEnough reading =
 abbrev pub RowsReadAreEnough : Type 0
 RowsReadAreEnough =
     (rows : OwnRows) (public : PublicRecord) (now : Moment) (asked : PartyRequest)
-    → answered public (own_from (rows_read asked rows) public now) now asked
+    → answered public (own_from (own_rows_read asked rows) public now) now asked
     ≡ answered public (own_from rows public now) now asked
 
 -- rows and a public record that are those of a party in the meeting of a name in some office, which
@@ -44,6 +44,6 @@ abbrev pub RowsGiveOwnThings : Type 0
 RowsGiveOwnThings =
     (office : OfficeLists) (meeting : MeetingName) (rows : OwnRows) (public : PublicRecord)
     (now : Moment)
-    → rows ≡ rows_in (meeting_at office meeting) rows.party
+    → rows ≡ own_rows_in (meeting_at office meeting) rows.party
     → public ≡ public_of office meeting
     → own_from rows public now ≡ own_of office rows.party meeting now

@@ -20,7 +20,7 @@ use Rattle.http_listener.specs.declared.listening.LoopFault.{LoopFault}
 use Rattle.http_listener.specs.declared.listening.LoopFault.TheVariants as fault
 use Rattle.tcp_close.specs.declared.connection.Connection.{Connection}
 use Rattle.tcp_close.specs.declared.listener.Listener as listener
-use Rattle.laws_text.proofs.TextOfficeLemmas.{offices_isolated, served-told, told-more}
+use Rattle.laws_text.proofs.TextOfficeLemmas.{offices_isolated, served-exchanged, exchanged-more}
 use Rattle.laws_text.specs.Connections.{AnswersBy, AnsweredRequest, ConnectionsAnswerRuns, ConnectionsAreIsolated, TurnsAnswerARun, answered_in, as_http, asked_by_request}
 use Rattle.laws_text.specs.Offices.{IsAnsweredInOffice}
 use Rattle.laws_text.specs.TextSecrecy.{TextsFromNothingAreIsolated}
@@ -35,21 +35,21 @@ module _ {R W C O : Type 0} (r : source.Ghosts R) (w : sink.Ghosts W) (k : clock
       ⊎ (AnswersBy r w k turn None from till × g.stands new first)
 
   module _ (taken ended : Connection R W) (first : OfficeLists) (old new : O) (from till : C) (stands : g.stands old first) (reliable : g.is_reliable new) (is_open : g.is_open new) where
-    answered : (received : ReceivedRequest) (read : Receives r taken.reader ended.reader received) (moment : Moment) (given : k.gives from moment till) (told : Result (Unit {0}) ServeFault)
-        → Replies g w moment received told old new taken.writer ended.writer → AnswersTurn (Served taken ended) first from till new
+    answered : (received : ReceivedRequest) (read : Receives r taken.reader ended.reader received) (moment : Moment) (given : k.gives from moment till) (exchanged : Result (Unit {0}) ServeFault)
+        → Replies g w moment received exchanged old new taken.writer ended.writer → AnswersTurn (Served taken ended) first from till new
     answered received read moment given (Ok x) replies =
         let it = replies.served reliable first stands in
-        inl (record { moment = moment; received = received; text = it.0 }, record { read = read; given = given; written = inl it.2 }, served-told g moment received first old new it.0 is_open it.1)
+        inl (record { moment = moment; received = received; text = it.0 }, record { read = read; given = given; written = inl it.2 }, served-exchanged g moment received first old new it.0 is_open it.1)
     answered received read moment given (Err Write) replies =
         let it = replies.partly refl reliable first stands in
-        inl (record { moment = moment; received = received; text = it.0 }, record { read = read; given = given; written = inr (replies.failed refl, it.2) }, served-told g moment received first old new it.0 is_open it.1)
+        inl (record { moment = moment; received = received; text = it.0 }, record { read = read; given = given; written = inr (replies.failed refl, it.2) }, served-exchanged g moment received first old new it.0 is_open it.1)
     answered received read moment given (Err Read) replies =
         let it = replies.unread refl in
         inr (record { failed = read.cut_off it.0.cut_off; unwritten = it.2 }, it.1.stands reliable is_open first stands)
 
     request-answered : (result : Result (Unit {0}) NowError) → (result ≡ Err Clock → ⊥) → ServesRequest g k r w result old new from till taken.reader ended.reader taken.writer ended.writer
         → AnswersTurn (Served taken ended) first from till new
-    request-answered result timed (inl it) = answered it.received it.read it.moment it.given it.told it.replies
+    request-answered result timed (inl it) = answered it.received it.read it.moment it.given it.returned it.replies
     request-answered result timed (inr (inl it, same, unwritten)) =
         inr (record { failed = it.failed; unwritten = unwritten }, subst (λ (o : O). g.stands o first) (sym same) stands)
     request-answered result timed (inr (inr it, same, unwritten)) = absurd (timed it.is)
@@ -67,7 +67,7 @@ module _ {R W C O : Type 0} (r : source.Ghosts R) (w : sink.Ghosts W) (k : clock
   -- where the clock gave no moment, the office is as it was
   request-untimed : (result : Result (Unit {0}) NowError) (old new : O) (from till : C) (reader reader' : R) (before after : W) → ServesRequest g k r w result old new from till reader reader' before after
       → result ≡ Err Clock → new ≡ old
-  request-untimed result old new from till reader reader' before after (inl it) untimed = absurd (served_no_clock it.told (sym it.is ∙ untimed))
+  request-untimed result old new from till reader reader' before after (inl it) untimed = absurd (served_no_clock it.returned (sym it.is ∙ untimed))
   request-untimed result old new from till reader reader' before after (inr (it, same, unwritten)) untimed = same
 
 -- ---- one turn after another
@@ -101,12 +101,12 @@ module _ {L R W C O : Type 0} (l : listener.Ghosts L R W) (r : source.Ghosts R) 
   -- a turn in front of a run
   answers-more : (turn : Turn R W) (later : List (Turn R W)) (first : OfficeLists) (from mid : C) (between new : O) → AnswersTurn r w k g turn first from mid between
       → ((next : OfficeLists) → g.stands between next → TurnsAnswerARun r w k g later next mid new) → TurnsAnswerARun r w k g (turn ∷ later) first from new
-  answers-more turn later first from mid between new (inl (answer, by, told)) rest =
-      let more = rest _ told.stands in record {
+  answers-more turn later first from mid between new (inl (answer, by, exchanged)) rest =
+      let more = rest _ exchanged.stands in record {
         answers = Some answer ∷ more.answers;
         till = more.till;
         are = (mid, by, more.are);
-        answered = told-more g as_http first (asked_by_request answer) (map asked_by_request (answered_in more.answers)) between new told more.answered;
+        answered = exchanged-more g as_http first (asked_by_request answer) (map asked_by_request (answered_in more.answers)) between new exchanged more.answered;
       }
   answers-more turn later first from mid between new (inr (by, stands)) rest =
       let more = rest first stands in record {
@@ -123,7 +123,7 @@ module _ {L R W C O : Type 0} (l : listener.Ghosts L R W) (r : source.Ghosts R) 
     till = before.clock;
     are = refl;
     answered = record {
-      run = record { office = first; exchanges = []; tells = refl };
+      run = record { office = first; exchanges = []; states = refl };
       begins = refl;
       of = tt;
       stands = subst (λ (it : Standing L C O). g.stands it.office first) (sym same) stands;
@@ -151,10 +151,10 @@ module _ {L R W C O : Type 0} (l : listener.Ghosts L R W) (r : source.Ghosts R) 
 
   pub connections_isolated : TextsFromNothingAreIsolated → ConnectionsAreIsolated l r w k g
   connections_isolated law party before after since until one other =
-      let told = connections_answer one.count one.result before after one.served one.reliable one.is_open empty_office one.empty in
+      let exchanged = connections_answer one.count one.result before after one.served one.reliable one.is_open empty_office one.empty in
       let later = connections_answer other.count other.result since until other.served other.reliable other.is_open empty_office other.empty in
       record {
-        told = told;
+        exchanged = exchanged;
         later = later;
-        isolated = offices_isolated g law as_http party (map asked_by_request (answered_in told.answers)) (map asked_by_request (answered_in later.answers)) after.office until.office told.answered later.answered;
+        isolated = offices_isolated g law as_http party (map asked_by_request (answered_in exchanged.answers)) (map asked_by_request (answered_in later.answers)) after.office until.office exchanged.answered later.answered;
       }

@@ -58,24 +58,24 @@ abbrev pub wanted_call : Secret → (Bool → Bool) → Call → Bool
 wanted_call secret wanted call = is_the_office call.caller && wanted (declares_in secret.meeting secret.resolution call.request)
 
 -- the replies to these, seen so that no result is told where one is left out, are those at their places
-pub office-picked : (secret : Secret) (wanted : Bool → Bool) (seen : Reply → Reply) → ((asks : Bool) (told : Reply) → wanted asks ≡ true → seen told ≡ cond asks (without_result told) told)
+pub office-picked : (secret : Secret) (wanted : Bool → Bool) (seen : Reply → Reply) → ((asks : Bool) (exchanged : Reply) → wanted asks ≡ true → seen exchanged ≡ cond asks (without_result exchanged) exchanged)
     → (calls : List Call) (replies : List Reply)
     → map seen (pick (wanted_call secret wanted) calls replies) ≡ pick (wanted_call secret wanted) (calls_of_office calls) (replies_to_office secret calls replies)
-office-picked secret wanted seen as_told [] replies = refl
-office-picked secret wanted seen as_told (call ∷ calls) [] = sym (pick-nothing (wanted_call secret wanted) (calls_of_office (call ∷ calls)))
-office-picked secret wanted seen as_told (call ∷ calls) (reply ∷ replies) =
+office-picked secret wanted seen as_exchanged [] replies = refl
+office-picked secret wanted seen as_exchanged (call ∷ calls) [] = sym (pick-nothing (wanted_call secret wanted) (calls_of_office (call ∷ calls)))
+office-picked secret wanted seen as_exchanged (call ∷ calls) (reply ∷ replies) =
     let test = wanted_call secret wanted in
     let asks = declares_in secret.meeting secret.resolution call.request in
     let more = pick test calls replies in
     let rest_calls = calls_of_office calls in
     let rest_replies = replies_to_office secret calls replies in
-    let rest : map seen more ≡ pick test rest_calls rest_replies = office-picked secret wanted seen as_told calls replies in
+    let rest : map seen more ≡ pick test rest_calls rest_replies = office-picked secret wanted seen as_exchanged calls replies in
     (elim (is_the_office call.caller) as (λ b. is_the_office call.caller ≡ b
     → map seen (cond (b && wanted asks) (reply ∷ more) more) ≡ pick test (cond b (call ∷ rest_calls) rest_calls) (cond b (but_result secret call.request reply ∷ rest_replies) rest_replies)) [
       | true ↦ λ office.
           (elim (wanted asks) as (λ w. wanted asks ≡ w → map seen (cond w (reply ∷ more) more)
           ≡ cond w (but_result secret call.request reply ∷ pick test rest_calls rest_replies) (pick test rest_calls rest_replies)) [
-            | true ↦ λ is. (let first = as_told asks reply is in λ i. first i ∷ rest i)
+            | true ↦ λ is. (let first = as_exchanged asks reply is in λ i. first i ∷ rest i)
             | false ↦ λ _. rest
           ]) refl
           ∙ sym (ap (λ b. cond (b && wanted asks) (but_result secret call.request reply ∷ pick test rest_calls rest_replies) (pick test rest_calls rest_replies)) office)

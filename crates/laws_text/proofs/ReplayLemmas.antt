@@ -53,31 +53,31 @@ replays_make office (line ∷ lines) (f ∷ failed) =
     ]
 
 -- what is told of what a line asked, where what follows tells the run
-told-first : (office : OfficeLists) (asked : Result Call Refusal) (lines : List (List ℕ)) (failed : List (Option Failure))
+exchanged-first : (office : OfficeLists) (asked : Result Call Refusal) (lines : List (List ℕ)) (failed : List (Option Failure))
     → AreTextsOfRun reply_line (answered_call office asked).office (exchanges_of (answered_call office asked).office lines failed)
     → AreTextsOfRun reply_line office (record { made = call_asked asked; text = (answered_call office asked).text } ∷ exchanges_of (answered_call office asked).office lines failed)
-told-first office (Ok call) lines failed tells = ap (λ texts. reply_line (decided office call).reply ∷ texts) tells
-told-first office (Err refusal) lines failed tells = tells
+exchanged-first office (Ok call) lines failed states = ap (λ texts. reply_line (decided office call).reply ∷ texts) states
+exchanged-first office (Err refusal) lines failed states = states
 
-pub replays_tell : ReplaysAnswerTheRun
-replays_tell office [] failed = refl
-replays_tell office (line ∷ lines) [] = refl
-replays_tell office (line ∷ lines) (f ∷ failed) =
+pub replays_answer : ReplaysAnswerTheRun
+replays_answer office [] failed = refl
+replays_answer office (line ∷ lines) [] = refl
+replays_answer office (line ∷ lines) (f ∷ failed) =
     elim (length line == 0) as (λ b. AreTextsOfRun reply_line office (exchanges_if b f office line lines failed)) [
-      | true ↦ replays_tell office lines failed
-      | false ↦ unless_told f (replays_tell (unless_failed f office line).office lines failed)
+      | true ↦ replays_answer office lines failed
+      | false ↦ unless_exchanged f (replays_answer (unless_failed f office line).office lines failed)
     ]
   where
-    unless_told : (f : Option Failure) → AreTextsOfRun reply_line (unless_failed f office line).office (exchanges_of (unless_failed f office line).office lines failed)
+    unless_exchanged : (f : Option Failure) → AreTextsOfRun reply_line (unless_failed f office line).office (exchanges_of (unless_failed f office line).office lines failed)
         → AreTextsOfRun reply_line office (exchanges_if false f office line lines failed)
-    unless_told (Some why) tells = tells
-    unless_told None tells = told-first office (asked_in_line line) lines failed tells
+    unless_exchanged (Some why) states = states
+    unless_exchanged None states = exchanged-first office (asked_in_line line) lines failed states
 
 -- ---- two replays
 
 -- the run that a replay tells
 abbrev replayed : OfficeLists → (lines : List (List ℕ)) (failed : List (Option Failure)) → RunTexts reply_line
-replayed office lines failed = record { office = office; exchanges = exchanges_of office lines failed; tells = replays_tell office lines failed }
+replayed office lines failed = record { office = office; exchanges = exchanges_of office lines failed; states = replays_answer office lines failed }
 
 pub replays_isolated : TextsFromNothingAreIsolated → ReplaysAreIsolated
 replays_isolated law party lines again failed others = law reply_line party (replayed empty_office lines failed) (replayed empty_office again others) refl refl

@@ -25,16 +25,16 @@ abbrev replies_in : {text_of : Reply → List ℕ} → RunTexts text_of → List
 replies_in run = (run_by decided run.office (calls_of_texts run)).replies
 
 -- the texts that reply to calls that pass a test
-told-picked : RunsAreTheDesks → (text_of : Reply → List ℕ) (test : Call → Bool) (run : RunTexts text_of) → texts_to test run.exchanges ≡ map text_of (pick test (calls_of_texts run) (replies_in run))
-told-picked desk text_of test run =
+exchanged-picked : RunsAreTheDesks → (text_of : Reply → List ℕ) (test : Call → Bool) (run : RunTexts text_of) → texts_to test run.exchanges ≡ map text_of (pick test (calls_of_texts run) (replies_in run))
+exchanged-picked desk text_of test run =
     texts-picked test run.exchanges
-    ∙ ap (pick test (calls_of_texts run)) (run.tells ∙ ap (λ (r : Run). map text_of r.replies) (sym (desk run.office (calls_of_texts run))))
+    ∙ ap (pick test (calls_of_texts run)) (run.states ∙ ap (λ (r : Run). map text_of r.replies) (sym (desk run.office (calls_of_texts run))))
     ∙ pick-map text_of test (calls_of_texts run) (replies_in run)
 
 -- to a party
 to-party : RunsAreTheDesks → (text_of : Reply → List ℕ) (party : List ℕ) (run : RunTexts text_of)
     → texts_to (is_call_by party) run.exchanges ≡ map text_of (replies_to party (calls_of_texts run) (replies_in run))
-to-party desk text_of party run = told-picked desk text_of (is_call_by party) run ∙ ap (map text_of) (party-picked party (calls_of_texts run) (replies_in run))
+to-party desk text_of party run = exchanged-picked desk text_of (is_call_by party) run ∙ ap (map text_of) (party-picked party (calls_of_texts run) (replies_in run))
 
 -- in a run from the office that holds nothing
 to-party-from-nothing : RunsAreTheDesks → (text_of : Reply → List ℕ) (party : List ℕ) (run : RunTexts text_of) → run.office ≡ empty_office
@@ -62,30 +62,30 @@ office-open secret call office = by call.caller office
     by caller.Office h = refl
     by (caller.Party party) h = absurd (true≢false (sym h))
 
-office-kept : (secret : Secret) (calls : List Call) → calls_of_office (without (is_secret_call secret) calls) ≡ calls_of_office calls
-office-kept secret calls =
+office-preserved : (secret : Secret) (calls : List Call) → calls_of_office (without (is_secret_call secret) calls) ≡ calls_of_office calls
+office-preserved secret calls =
     let office = λ (call : Call). is_the_office call.caller in
     let stays = λ (call : Call). not (is_secret_call secret call) in
     filter-among office stays calls (all-of (λ call. implies (office call) (stays call)) calls (λ call. implied (office call) (stays call) (office-open secret call)))
 
 -- the replies to the office that are wanted, seen so that no result is told where one is left out, are the same in two runs that tell the same
-wanted-same : {text_of : Reply → List ℕ} (secret : Secret) (wanted : Bool → Bool) (seen : Reply → Reply) → ((asks : Bool) (told : Reply) → wanted asks ≡ true → seen told ≡ cond asks (without_result told) told)
+wanted-same : {text_of : Reply → List ℕ} (secret : Secret) (wanted : Bool → Bool) (seen : Reply → Reply) → ((asks : Bool) (exchanged : Reply) → wanted asks ≡ true → seen exchanged ≡ cond asks (without_result exchanged) exchanged)
     → (one other : RunTexts text_of) → calls_of_office (calls_of_texts one) ≡ calls_of_office (calls_of_texts other)
     → replies_to_office secret (calls_of_texts one) (replies_in one) ≡ replies_to_office secret (calls_of_texts other) (replies_in other)
     → map seen (pick (wanted_call secret wanted) (calls_of_texts one) (replies_in one)) ≡ map seen (pick (wanted_call secret wanted) (calls_of_texts other) (replies_in other))
-wanted-same secret wanted seen as_told one other calls replies =
-    office-picked secret wanted seen as_told (calls_of_texts one) (replies_in one)
+wanted-same secret wanted seen as_exchanged one other calls replies =
+    office-picked secret wanted seen as_exchanged (calls_of_texts one) (replies_in one)
     ∙ (λ i. pick (wanted_call secret wanted) (calls i) (replies i))
-    ∙ sym (office-picked secret wanted seen as_told (calls_of_texts other) (replies_in other))
+    ∙ sym (office-picked secret wanted seen as_exchanged (calls_of_texts other) (replies_in other))
 
 -- of what asks for no declaration all is seen, and of what does not the result
-open-seen : (asks : Bool) (told : Reply) → not asks ≡ true → told ≡ cond asks (without_result told) told
-open-seen true told h = absurd (true≢false (sym h))
-open-seen false told h = refl
+open-seen : (asks : Bool) (exchanged : Reply) → not asks ≡ true → exchanged ≡ cond asks (without_result exchanged) exchanged
+open-seen true exchanged h = absurd (true≢false (sym h))
+open-seen false exchanged h = refl
 
-asked-seen : (asks : Bool) (told : Reply) → asks ≡ true → without_result told ≡ cond asks (without_result told) told
-asked-seen true told h = refl
-asked-seen false told h = absurd (true≢false (sym h))
+asked-seen : (asks : Bool) (exchanged : Reply) → asks ≡ true → without_result exchanged ≡ cond asks (without_result exchanged) exchanged
+asked-seen true exchanged h = refl
+asked-seen false exchanged h = absurd (true≢false (sym h))
 
 -- pairs of texts that are the same as others
 pairs-of : (text_of : Reply → List ℕ) {a b c d : List (List ℕ)} → a ≡ b → c ≡ d → AllZip (AreSameButResult text_of) b d → AllZip (AreSameButResult text_of) a c
@@ -94,13 +94,13 @@ pairs-of text_of {a} {b} {c} {d} same again pairs = subst (λ y. AllZip (AreSame
 pub texts_keep_secrets : RunsAreTheDesks → KeepsSecretsInRuns decided → TextsKeepSecrets
 texts_keep_secrets desk law text_of secret one other same rest =
     let ends = law secret one.office other.office (calls_of_texts one) (calls_of_texts other) same rest in
-    let calls = sym (office-kept secret (calls_of_texts one)) ∙ ap calls_of_office rest ∙ office-kept secret (calls_of_texts other) in
-    let open_replies = wanted-same secret not (λ told. told) open-seen one other calls ends.office in
+    let calls = sym (office-preserved secret (calls_of_texts one)) ∙ ap calls_of_office rest ∙ office-preserved secret (calls_of_texts other) in
+    let open_replies = wanted-same secret not (λ exchanged. exchanged) open-seen one other calls ends.office in
     let asked_replies = wanted-same secret (λ asks. asks) without_result asked-seen one other calls ends.office in record {
-      office_told = told-picked desk text_of (is_open_call secret) one
+      office_exchanged = exchanged-picked desk text_of (is_open_call secret) one
           ∙ ap (map text_of) (sym (map-id (pick (is_open_call secret) (calls_of_texts one) (replies_in one))) ∙ open_replies ∙ map-id (pick (is_open_call secret) (calls_of_texts other) (replies_in other)))
-          ∙ sym (told-picked desk text_of (is_open_call secret) other);
-      declared = pairs-of text_of (told-picked desk text_of (asks_declaration secret) one) (told-picked desk text_of (asks_declaration secret) other)
+          ∙ sym (exchanged-picked desk text_of (is_open_call secret) other);
+      declared = pairs-of text_of (exchanged-picked desk text_of (asks_declaration secret) one) (exchanged-picked desk text_of (asks_declaration secret) other)
           (each-but-result text_of (pick (asks_declaration secret) (calls_of_texts one) (replies_in one)) (pick (asks_declaration secret) (calls_of_texts other) (replies_in other)) asked_replies);
       parties = λ before party open_party.
           to-party desk text_of party one ∙ ap (map text_of) (ends.parties before party open_party) ∙ sym (to-party desk text_of party other);

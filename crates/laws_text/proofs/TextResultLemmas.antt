@@ -12,15 +12,15 @@ abbrev is_result : Reply → Bool
 is_result (reply.Declared result) = true
 is_result other = false
 
-result-without : (told : Reply) → is_result (without_result told) ≡ is_result told
+result-without : (exchanged : Reply) → is_result (without_result exchanged) ≡ is_result exchanged
 result-without (reply.Declared result) = refl
 result-without other = refl
 
-no-result : (told : Reply) → is_result told ≡ false → without_result told ≡ told
+no-result : (exchanged : Reply) → is_result exchanged ≡ false → without_result exchanged ≡ exchanged
 no-result (reply.Declared result) none = absurd (true≢false none)
 no-result other none = refl
 
-a-result : (told : Reply) → is_result told ≡ true → (result : Declaration) × (told ≡ reply.Declared result)
+a-result : (exchanged : Reply) → is_result exchanged ≡ true → (result : Declaration) × (exchanged ≡ reply.Declared result)
 a-result (reply.Declared result) is = (result, refl)
 a-result other is = absurd (true≢false (sym is))
 

@@ -16,7 +16,7 @@ use Rattle.http_listener.specs.Connections.{Gone, Served, ServesTurns, Standing,
 use Rattle.http_listener.specs.declared.listening.LoopFault.{LoopFault}
 use Rattle.tcp_close.specs.declared.connection.Connection.{Connection}
 use Rattle.tcp_close.specs.declared.listener.Listener as listener
-use Rattle.laws_text.specs.Offices.{AskedText, AskedEffect, HasAnsweredARun, Makes, Nothing, Tells, Writing}
+use Rattle.laws_text.specs.Offices.{AskedText, AskedEffect, HasAnsweredARun, Makes, Nothing, RepliesWith, Writing}
 use Rattle.laws_text.specs.TextSecrecy.{AreIsolatedFromNothing}
 
 -- replies and failures are written as texts of HTTP
@@ -26,7 +26,7 @@ as_http = record { reply = replied_text; failure = failure_text }
 -- what comes to a call or else to a reply, or to neither
 abbrev pub asks_by : Option Call → Option Reply → AskedEffect
 asks_by (Some call) reply = Makes call
-asks_by None (Some reply) = Tells reply
+asks_by None (Some reply) = RepliesWith reply
 asks_by None None = Nothing
 
 -- what was received on a connection at a moment asks the call of the caller whose key came, or is
@@ -117,10 +117,10 @@ module _ {L R W C O : Type 0} (l : listener.Ghosts L R W) (r : source.Ghosts R) 
 
   -- two whole lists of connections answer a run each, and these are isolated
   pub record AnswerIsolatedRuns (party : Party) (one other : List (Turn R W)) (from since : C)
-      (left kept : O) : Type 0 where
-    pub told : TurnsAnswerARun r w k g one empty_office from left
-    pub later : TurnsAnswerARun r w k g other empty_office since kept
-    pub isolated : AreIsolatedFromNothing party told.answered.run.exchanges
+      (left preserved : O) : Type 0 where
+    pub exchanged : TurnsAnswerARun r w k g one empty_office from left
+    pub later : TurnsAnswerARun r w k g other empty_office since preserved
+    pub isolated : AreIsolatedFromNothing party exchanged.answered.run.exchanges
         later.answered.run.exchanges
 
   -- so two lists of connections, each from an office that holds nothing, are isolated

@@ -27,19 +27,19 @@ pub record Writing : Type 0 where
 -- where its source failed
 pub data AskedEffect : Type 0 where
   Makes : Call → AskedEffect
-  Tells : Reply → AskedEffect
+  RepliesWith : Reply → AskedEffect
   Nothing : AskedEffect
 
 -- the call that is made of it
 abbrev pub call_made : AskedEffect → Option Call
 call_made (Makes call) = Some call
-call_made (Tells reply) = None
+call_made (RepliesWith reply) = None
 call_made Nothing = None
 
 -- the reply to it in an office
 abbrev pub reply_to : OfficeLists → AskedEffect → Option Reply
 reply_to office (Makes call) = Some (decided office call).reply
-reply_to office (Tells reply) = Some reply
+reply_to office (RepliesWith reply) = Some reply
 reply_to office Nothing = None
 
 -- what was asked, by the office that is stored, and the text that was written
@@ -81,7 +81,7 @@ pub record IsAnsweredStored {O : Type 0} (g : office.Ghosts O) (writing : Writin
     (old new : O) : Type 0 where
   pub was_reliable : g.is_reliable new → g.is_reliable old
   pub was_open : g.is_reliable new → g.is_open new → g.is_open old
-  pub told : g.is_reliable new → g.is_open new → (before : OfficeLists) → g.stands old before
+  pub exchanged : g.is_reliable new → g.is_open new → (before : OfficeLists) → g.stands old before
       → IsAnsweredInOffice g writing asked before new
 
 -- one after another
@@ -125,32 +125,32 @@ OfficesAnswerRuns {O} g =
 -- one for one
 abbrev pub OfficesAreIsolated : {O : Type 0} → office.Ghosts O → Type 0
 OfficesAreIsolated {O} g =
-    (writing : Writing) (party : Party) (asked again : List AskedText) (left kept : O)
-    → (told : HasAnsweredARun g writing empty_office asked left)
-    → (later : HasAnsweredARun g writing empty_office again kept)
-    → AreIsolatedFromNothing party told.run.exchanges later.run.exchanges
+    (writing : Writing) (party : Party) (asked again : List AskedText) (left preserved : O)
+    → (exchanged : HasAnsweredARun g writing empty_office asked left)
+    → (later : HasAnsweredARun g writing empty_office again preserved)
+    → AreIsolatedFromNothing party exchanged.run.exchanges later.run.exchanges
 
 -- and from any two offices: where they are one to a party, and the calls that were made there show
 -- it the same
 abbrev pub AlikeOfficesAreIsolated : {O : Type 0} → office.Ghosts O → Type 0
 AlikeOfficesAreIsolated {O} g =
     (writing : Writing) (viewer : Viewer) (one other : OfficeLists) (asked again : List AskedText)
-    (left kept : O)
-    → (told : HasAnsweredARun g writing one asked left)
-    → (later : HasAnsweredARun g writing other again kept)
+    (left preserved : O)
+    → (exchanged : HasAnsweredARun g writing one asked left)
+    → (later : HasAnsweredARun g writing other again preserved)
     → AreIndistinguishable viewer one other
-    → AreIsolatedTo viewer one other told.run.exchanges later.run.exchanges
+    → AreIsolatedTo viewer one other exchanged.run.exchanges later.run.exchanges
 
 -- secrecy: where they are the same but for secret votes, and the calls that were made there differ
 -- in such votes alone, they show the same of them
 abbrev pub OfficesKeepSecrets : {O : Type 0} → office.Ghosts O → Type 0
 OfficesKeepSecrets {O} g =
     (writing : Writing) (secret : Secret) (one other : OfficeLists) (asked again : List AskedText)
-    (left kept : O)
-    → (told : HasAnsweredARun g writing one asked left)
-    → (later : HasAnsweredARun g writing other again kept)
+    (left preserved : O)
+    → (exchanged : HasAnsweredARun g writing one asked left)
+    → (later : HasAnsweredARun g writing other again preserved)
     → AreSameBut secret one other
-    → KeepSecret writing.reply secret one told.run.exchanges later.run.exchanges
+    → KeepSecret writing.reply secret one exchanged.run.exchanges later.run.exchanges
 
 -- ---- one call
 

@@ -16,7 +16,7 @@ use Rattle.laws_step.specs.Worlds.{AgreeFor}
 use Rattle.desk_http.specs.HttpAnswers.{reply_in}
 use Rattle.desk_http.specs.Served.{replied_text}
 
--- two offices agree for a party on what it was heard to ask
+-- two offices agree for a party on what it was received to ask
 abbrev pub AgreeOnRequest :
     OfficeLists → OfficeLists → Moment → Party → Result Request ReceiveError → Type 0
 AgreeOnRequest one other now party (Ok request) = AgreeFor one other party now request
@@ -27,18 +27,18 @@ AgreeOnRequest one other now party (Err why) = ⊤
 abbrev pub AgreeTo :
     OfficeLists → OfficeLists → Moment → Option Caller → Option Caller → Result Request ReceiveError
     → Type 0
-AgreeTo one other now None who heard = who ≡ None
-AgreeTo one other now (Some caller.Office) who heard = ⊥
-AgreeTo one other now (Some (caller.Party party)) who heard =
-    (who ≡ Some (caller.Party party)) × AgreeOnRequest one other now party heard
+AgreeTo one other now None who content = who ≡ None
+AgreeTo one other now (Some caller.Office) who content = ⊥
+AgreeTo one other now (Some (caller.Party party)) who content =
+    (who ≡ Some (caller.Party party)) × AgreeOnRequest one other now party content
 
 -- two offices agree on all that the sender of what was received may know: that its key is the same
 -- party's in both or nobody's, and, in the meeting in which it asks, on the public record and on
 -- that party's own things
 abbrev pub AgreeWith : OfficeLists → OfficeLists → Moment → ReceivedRequest → Type 0
 AgreeWith one other now (Refused refusal) = ⊤
-AgreeWith one other now (With key heard) =
-    AgreeTo one other now (caller_with one.keys key) (caller_with other.keys key) heard
+AgreeWith one other now (With key content) =
+    AgreeTo one other now (caller_with one.keys key) (caller_with other.keys key) content
 
 -- such offices reply alike
 abbrev pub RepliesShowNoMore : Type 0

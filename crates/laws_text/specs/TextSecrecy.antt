@@ -20,7 +20,7 @@ use Rattle.laws_text.specs.Exchanges.{Exchange, AreTextsOfRun, asks_declaration,
 pub record RunTexts (text_of : Reply → List ℕ) : Type 0 where
   pub office : OfficeLists
   pub exchanges : List Exchange
-  pub tells : AreTextsOfRun text_of office exchanges
+  pub states : AreTextsOfRun text_of office exchanges
 
 -- the calls of the run
 abbrev pub calls_of_texts : {text_of : Reply → List ℕ} → RunTexts text_of → List Call
@@ -30,22 +30,22 @@ calls_of_texts run = calls_made run.exchanges
 -- replies to it are the same bytes, one for one
 abbrev pub AreIsolatedTo : Viewer → OfficeLists → OfficeLists → List Exchange → List Exchange
     → Type 0
-AreIsolatedTo viewer office other told again =
-    IsTrue (list_all (is_near_call viewer) (calls_made told))
+AreIsolatedTo viewer office other exchanged again =
+    IsTrue (list_all (is_near_call viewer) (calls_made exchanged))
     → IsTrue (list_all (is_near_call viewer) (calls_made again))
-    → trace_of decided viewer office (calls_made told)
+    → trace_of decided viewer office (calls_made exchanged)
     ≡ trace_of decided viewer other (calls_made again)
-    → texts_to (is_call_by viewer.party) told ≡ texts_to (is_call_by viewer.party) again
+    → texts_to (is_call_by viewer.party) exchanged ≡ texts_to (is_call_by viewer.party) again
 
 -- from the office that holds nothing: where the calls of two runs show a party the same, with all
 -- sources of either, the texts of the replies to it are the same bytes, one for one
 abbrev pub AreIsolatedFromNothing : Party → List Exchange → List Exchange → Type 0
-AreIsolatedFromNothing party told again =
-    let calls = calls_made told in
+AreIsolatedFromNothing party exchanged again =
+    let calls = calls_made exchanged in
     let later = calls_made again in
     let viewer = viewer_of party calls later in
     trace_of decided viewer empty_office calls ≡ trace_of decided viewer empty_office later
-    → texts_to (is_call_by party) told ≡ texts_to (is_call_by party) again
+    → texts_to (is_call_by party) exchanged ≡ texts_to (is_call_by party) again
 
 -- isolation: the texts of two runs are isolated, where the offices are one to the viewer
 abbrev pub TextsAreIsolated : Type 0
@@ -77,22 +77,22 @@ AreSameButResult text_of one other = (one ≡ other) ⊎ AreBothResults text_of 
 -- of calls that are made before that is declared, so are those to each party that is none of the
 -- voters
 pub record TextsAgree (text_of : Reply → List ℕ) (secret : Secret) (office : OfficeLists)
-    (told again : List Exchange) : Type 0 where
-  pub office_told : texts_to (is_open_call secret) told ≡ texts_to (is_open_call secret) again
-  pub declared : AllZip (AreSameButResult text_of) (texts_to (asks_declaration secret) told)
+    (exchanged again : List Exchange) : Type 0 where
+  pub office_exchanged : texts_to (is_open_call secret) exchanged ≡ texts_to (is_open_call secret) again
+  pub declared : AllZip (AreSameButResult text_of) (texts_to (asks_declaration secret) exchanged)
       (texts_to (asks_declaration secret) again)
-  pub parties : IsTrue (are_before decided secret office (calls_made told)) → (party : Party)
+  pub parties : IsTrue (are_before decided secret office (calls_made exchanged)) → (party : Party)
       → IsTrue (not (secret.voters party))
-      → texts_to (is_call_by party) told ≡ texts_to (is_call_by party) again
+      → texts_to (is_call_by party) exchanged ≡ texts_to (is_call_by party) again
 
 -- the texts of two runs keep secret votes: where the calls differ in such votes alone, they show
 -- the same of them
 abbrev pub KeepSecret : (Reply → List ℕ) → Secret → OfficeLists → List Exchange → List Exchange
     → Type 0
-KeepSecret text_of secret office told again =
-    without (is_secret_call secret) (calls_made told)
+KeepSecret text_of secret office exchanged again =
+    without (is_secret_call secret) (calls_made exchanged)
     ≡ without (is_secret_call secret) (calls_made again)
-    → TextsAgree text_of secret office told again
+    → TextsAgree text_of secret office exchanged again
 
 -- secrecy: the texts of two runs do, where the offices are the same but for secret votes
 abbrev pub TextsKeepSecrets : Type 0

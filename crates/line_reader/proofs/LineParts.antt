@@ -12,8 +12,8 @@ part-given xs start end given within =
     ap (λ n. drop given (take n (drop start xs))) (sym count)
 
 -- a part keeps its bytes, where all bytes before its end are kept
-pub part-kept : (old new : List ℕ) (start count : ℕ) → take (start + count) new ≡ take (start + count) old → take count (drop start new) ≡ take count (drop start old)
-part-kept old new start count kept = sym (drop-take start count new) ∙ ap (λ z. drop start z) kept ∙ drop-take start count old
+pub part-preserved : (old new : List ℕ) (start count : ℕ) → take (start + count) new ≡ take (start + count) old → take count (drop start new) ≡ take count (drop start old)
+part-preserved old new start count preserved = sym (drop-take start count new) ∙ ap (λ z. drop start z) preserved ∙ drop-take start count old
 
 -- a part that is n bytes longer
 pub part-more : (xs : List ℕ) (start count n : ℕ) → take (count + n) (drop start xs) ≡ take count (drop start xs) ++ take n (drop (start + count) xs)
@@ -22,9 +22,9 @@ part-more xs start count n = take-add count n (drop start xs) ∙ ap (λ z. take
 -- n bytes that came behind a part, which was moved
 pub part-arrived : (old moved new : List ℕ) (start count from to n : ℕ) → to ≡ from + count → take count (drop from moved) ≡ take count (drop start old) → take to new ≡ take to moved
     → take (to + n - from) (drop from new) ≡ take count (drop start old) ++ take n (drop to new)
-part-arrived old moved new start count from to n e same kept =
-    let kept' : take (from + count) new ≡ take (from + count) moved = rw e at kept in
+part-arrived old moved new start count from to n e same preserved =
+    let preserved' : take (from + count) new ≡ take (from + count) moved = rw e at preserved in
     let longer : to + n - from ≡ count + n = omega arith in
     ap (λ m. take m (drop from new)) longer ∙ part-more new from count n ∙
-    ap (λ z. z ++ take n (drop (from + count) new)) (part-kept moved new from count kept' ∙ same) ∙
+    ap (λ z. z ++ take n (drop (from + count) new)) (part-preserved moved new from count preserved' ∙ same) ∙
     ap (λ m. take count (drop start old) ++ take n (drop m new)) (sym e)

@@ -20,7 +20,7 @@ LineFront Ended pending remaining =
 -- the reader read on, and gave nothing
 pub record ReadsOn (old new : LineReading) (remaining left : Option (List ℕ)) (passed passed' : ℕ)
     : Type 0 where
-  pub unread_kept : Keeps (unread old.pending remaining) (unread new.pending left)
+  pub unread_preserved : Keeps (unread old.pending remaining) (unread new.pending left)
   pub counted : new.taken + passed ≡ old.taken + passed'
   pub whole : SameWhole old.taken remaining new.taken left
   pub none_given : new.taken + length old.pending ≡ old.taken + length new.pending

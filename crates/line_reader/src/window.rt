@@ -89,15 +89,15 @@ impl Window {
     }
 
     /// Keeps the first bytes that are pending, and drops the others and the last line.
-    pub fn keep(&mut self, kept: usize)
-        requires { kept ≤ length self.old.pending }
+    pub fn keep(&mut self, count: usize)
+        requires { count ≤ length self.old.pending }
         ensures line { self.new.line ≡ [] }
-        ensures pending { self.new.pending ≡ take kept self.old.pending }
+        ensures pending { self.new.pending ≡ take count self.old.pending }
     {
-        move_to_front(&mut self.buffer, self.start, kept);
+        move_to_front(&mut self.buffer, self.start, count);
         self.line_len = 0;
         self.start = 0;
-        self.end = kept;
+        self.end = count;
     }
 
     /// Reads at most `most` bytes behind those that are pending, and returns how many came.

@@ -1,11 +1,11 @@
-pub mod AppointmentsKept
-pub mod AttendanceKept
+pub mod AppointmentsPreserved
+pub mod AttendancePreserved
 pub mod CoreEntryLemmas
 pub mod CoreFoundLemmas
-pub mod MeetingKept
-pub mod OfficeKept
+pub mod MeetingPreserved
+pub mod OfficePreserved
 pub mod Placed
-pub mod ReadKept
+pub mod ReadPreserved
 pub mod RulingLemmas
 pub mod Rulings
 pub mod StepLaws

@@ -15,8 +15,8 @@ use Rattle.desk_words.specs.declared.request.PartyRequest.{PartyRequest}
 use Rattle.desk_words.specs.declared.request.Request.TheVariants as asked
 use Rattle.party_views.specs.Public.{PublicRecord}
 use Rattle.party_views.specs.PublicRead.{public_read}
-use Rattle.party_views.specs.RowsRead.{rows_read}
-use Rattle.party_views.specs.PartyRows.{rows_in}
+use Rattle.party_views.specs.RowsRead.{own_rows_read}
+use Rattle.party_views.specs.PartyRows.{own_rows_in}
 use Rattle.party_views.specs.Views.{meeting_at, public_of}
 use Rattle.party_views.specs.declared.own_rows.OwnRows.{OwnRows}
 use Rattle.office_decisions.specs.ListsRead.{days_read, lists_read, reads_register}
@@ -45,7 +45,7 @@ party_call party meeting now what = record {
 pub record AreRead (office : OfficeLists) (party : Party) (meeting : MeetingName)
     (what : PartyRequest) (seen : PublicRecord) (rows : OwnRows) : Type 0 where
   pub public : seen ≡ public_read what (public_of office meeting)
-  pub own : rows ≡ rows_read what (rows_in (meeting_at office meeting) party)
+  pub own : rows ≡ own_rows_read what (own_rows_in (meeting_at office meeting) party)
 
 -- a call of the office, which asks something in a meeting
 abbrev pub office_call : MeetingName → Moment → OfficeRequest → Call

@@ -1,4 +1,5 @@
 pub mod Checked
+pub mod Decided
 pub mod Decisions
 pub mod KeyHolders
 pub mod Step

@@ -9,7 +9,7 @@ ghost use Rattle.desk_words.specs.declared.change.MeetingChange.TheVariants as m
 ghost use Rattle.desk_words.specs.declared.office.OfficeLists.{OfficeLists};
 ghost use Rattle.caller_view.specs.PartyRulings.{party_ruling};
 ghost use Rattle.party_views.specs.OwnViews.{own_from};
-ghost use Rattle.party_views.specs.RowsRead.{rows_read};
+ghost use Rattle.party_views.specs.RowsRead.{own_rows_read};
 ghost use Rattle.party_views.specs.declared.own_rows.OwnRows.{OwnRows};
 ghost use Rattle.meeting_core.specs.Decisions.{AreRead, party_call};
 ghost use Rattle.meeting_core.specs.Step.{decided};
@@ -53,15 +53,16 @@ pub(crate) fn entering(meeting: MeetingId, answer: Answer<Entry>) -> Answer<Chan
     }
 }
 
-/// The answer to a party, from the public record and those of its rows that it reads.
-fn answer_from(
+/// The answer to a party, from the public record and those of its rows that it reads. The error is
+/// want of memory.
+pub(crate) fn answer_from(
     alloc: Global,
     public: &PublicRecord,
     rows: OwnRows,
     now: Moment,
     asked: &PartyRequest,
 ) -> Result<Answer<Entry>, AllocError>
-    ensures { IfOk result (λ a. (all : OwnRows) → rows ≡ rows_read asked.now all
+    ensures { IfOk result (λ a. (all : OwnRows) → rows ≡ own_rows_read asked.now all
         → a ≡ ruled_answer (party_ruling public.now (own_from all public.now now) now asked.now)) }
 {
     let own = own_for(alloc, rows, public, now, asked)?;
@@ -82,7 +83,7 @@ pub fn decide_from_rows(
     ensures decided { IfOk result (λ a. (office : OfficeLists) (party : Party)
         → AreRead office party meeting asked.now public.now rows
         → a ≡ decided office (party_call party meeting now asked.now)) }
-    ensures kept { IfOk result (λ a. (office : OfficeLists) (party : Party)
+    ensures valid { IfOk result (λ a. (office : OfficeLists) (party : Party)
         → AreRead office party meeting asked.now public.now rows → IsTrue (is_office office)
         → IsTrue (is_office (applied_if_any office a.change))) }
 {

@@ -3,32 +3,35 @@ ghost use Rattle.std.specs.Prelude.{◌≡◌, true, IfOk, OnOk, OnErr, IsTrue, 
 ghost use Rattle.party_views.specs.Views.{meeting_at, own_of, public_of};
 ghost use Rattle.caller_view.specs.PartyRulings.{party_ruling};
 ghost use Rattle.desk_words.specs.Office.{is_office};
-ghost use Rattle.desk_words.specs.Rulings.{ruled_answer, map_change};
+ghost use Rattle.desk_words.specs.Rulings.{map_change, refuses, ruled_answer};
 ghost use Rattle.desk_words.specs.declared.change.Change.TheVariants as change;
 ghost use Rattle.desk_words.specs.declared.change.MeetingChange.TheVariants as meeting_change;
-ghost use Rattle.office_decisions.specs.OfficeRulings.{is_register_held, office_ruling, refuses_at_once};
+ghost use Rattle.office_decisions.specs.OfficeRulings.{desk_ruling, is_list_held, is_register_held, office_ruling, refuses_at_once};
 ghost use Rattle.office_decisions.specs.OfficeRulings.{office_needs_no_memory};
 ghost use Rattle.office_decisions.specs.RequestLimits.{if_any, keeps_limits};
 ghost use Rattle.desk_words.specs.Changes.{applied, applied_if_any, empty_office, sets_fields};
 ghost use Rattle.meeting_core.specs.Step.{decided, is_at_once_to, needs_no_memory, stepped};
 
 mod callers;
+mod deciding;
 mod of_lists;
 mod party_reads;
 mod perform;
 
-use crate::answers::{entering, in_meeting};
+use crate::answers::{answer_from, entering, in_meeting};
 use crate::changes::{add_meeting, change_meeting};
-use caller_view::{answer, answer_notice};
+use crate::dispatch::decide_by;
+use caller_view::answer_notice;
+use deciding::InBook;
 use desk_words::{
-    Answer, Call, Caller, Change, DayList, Entry, KeyRows, MeetingId, MeetingLists, Moment,
-    OfficeRequest, Party, PartyRequest, Refusal, Reply, Request, find_meeting, refuse,
+    Answer, Call, Change, DayList, DeskRequest, Entry, KeyRows, MeetingId, MeetingLists, Moment,
+    OfficeRequest, Party, PartyRequest, Reply, find_meeting,
 };
 pub use of_lists::BookFault;
 use office_days::Closed;
 use office_decisions::{desk_answer, office_answer};
-use party_reads::{public_in, rows_in, rows_read};
-use party_views::{OwnView, PublicRecord, own_for, own_from};
+use party_reads::{own_rows_in, own_rows_read, public_in};
+use party_views::{OwnView, PublicRecord, own_from};
 use std::alloc::{AllocError, Global};
 use std::marker::Model;
 
@@ -71,7 +74,7 @@ impl Book {
     /// The empty office.
     pub fn new(alloc: Global) -> Book
         ensures value { result ≡ empty_office }
-        ensures kept { IsTrue (is_office result) }
+        ensures valid { IsTrue (is_office result) }
     {
         Book {
             alloc,
@@ -101,7 +104,7 @@ impl Book {
     {
         let found = find_meeting(&self.meetings, meeting);
         let public = public_in(&self.closed, found);
-        let rows = rows_in(self.alloc, found, party)?;
+        let rows = own_rows_in(self.alloc, found, party)?;
         own_from(self.alloc, rows, &public, now)
     }
 
@@ -123,9 +126,21 @@ impl Book {
         if let PartyRequest::Notice = asked {
             return answer_notice(self.alloc, &public, now);
         }
-        let rows = rows_read(self.alloc, found, party, asked)?;
-        let own = own_for(self.alloc, rows, &public, now, asked)?;
-        answer(self.alloc, &public, own, now, asked)
+        let rows = own_rows_read(self.alloc, found, party, asked)?;
+        answer_from(self.alloc, &public, rows, now, asked)
+    }
+
+    /// The answer to what the office asks of the whole desk.
+    fn answer_to_desk(&self, asked: &DeskRequest) -> Result<Answer<Change>, AllocError>
+        ensures answer { IfOk result (λ a. a ≡ ruled_answer
+            (desk_ruling self.now.keys self.now.closed self.now.meetings asked.now)) }
+        ensures limits { IfOk result (λ a. if_any keeps_limits a.change ≡ true) }
+        ensures refusals { refuses
+            (desk_ruling self.now.keys self.now.closed self.now.meetings asked.now) ≡ true
+            → IsOk result }
+        ensures same { is_list_held self.now.keys self.now.closed asked.now ≡ true → IsOk result }
+    {
+        desk_answer(self.alloc, &self.keys, &self.closed, &self.meetings, asked)
     }
 
     /// The answer to what the office asks in a meeting, as a change of the office. A party's calls
@@ -178,30 +193,14 @@ impl Book {
         ensures refusals { is_at_once_to call.now.caller (decided self.now call.now) ≡ true
             → IsOk result }
     {
-        match call.caller {
-            Caller::Office => match &call.request {
-                Request::Desk(asked) => {
-                    desk_answer(self.alloc, &self.keys, &self.closed, &self.meetings, asked)
-                }
-                Request::Office { meeting, asked } => {
-                    self.answer_to_office(*meeting, call.moment, asked)
-                }
-                Request::Party { .. } => Ok(refuse(Refusal::PartyOnly)),
-            },
-            Caller::Party(party) => match &call.request {
-                Request::Party { meeting, asked } => {
-                    self.entry_for(party, *meeting, call.moment, asked)
-                }
-                Request::Desk(_) | Request::Office { .. } => Ok(refuse(Refusal::OfficeOnly)),
-            },
-        }
+        decide_by(&mut InBook { book: self }, call)
     }
 
     /// What is decided of a call, as `decide` says.
     fn decision(&self, call: &Call) -> Result<Answer<Change>, AllocError>
         ensures answer { IfOk result (λ a. a ≡ decided self.now call.now) }
         ensures held { IsTrue (is_office self.now) }
-        ensures kept { IfOk result (λ a. IsTrue (is_office (applied_if_any self.now a.change))) }
+        ensures valid { IfOk result (λ a. IsTrue (is_office (applied_if_any self.now a.change))) }
         ensures sure { needs_no_memory self.now call.now.caller call.now.request ≡ true
             → IsOk result }
         ensures refusals { is_at_once_to call.now.caller (decided self.now call.now) ≡ true
@@ -221,7 +220,7 @@ impl Book {
         ensures reply { IfOk result (λ d. d.0 ≡ (decided self.now call.now).reply) }
         ensures change { IfOk result (λ d. d.1 ≡ (decided self.now call.now).change) }
         ensures held { IsTrue (is_office self.now) }
-        ensures kept { IfOk result (λ d. IsTrue (is_office (applied_if_any self.now d.1))) }
+        ensures valid { IfOk result (λ d. IsTrue (is_office (applied_if_any self.now d.1))) }
         ensures sure { needs_no_memory self.now call.now.caller call.now.request ≡ true
             → IsOk result }
         ensures refusals { is_at_once_to call.now.caller (decided self.now call.now) ≡ true
@@ -238,7 +237,7 @@ impl Book {
         requires { IsTrue (is_office (applied self.old change)) }
         ensures ok { OnOk result (self.new ≡ applied self.old change) }
         ensures err { OnErr result (self.new ≡ self.old) }
-        ensures kept { IsTrue (is_office self.new) }
+        ensures valid { IsTrue (is_office self.new) }
         ensures sure { sets_fields change ≡ true → IsOk result }
     {
         match change {
@@ -258,7 +257,7 @@ impl Book {
         requires { IsTrue (is_office (applied_if_any self.old change)) }
         ensures ok { OnOk result (self.new ≡ applied_if_any self.old change) }
         ensures err { OnErr result (self.new ≡ self.old) }
-        ensures kept { IsTrue (is_office self.new) }
+        ensures valid { IsTrue (is_office self.new) }
         ensures sure { if_any sets_fields change ≡ true → IsOk result }
     {
         match change {
@@ -273,7 +272,7 @@ impl Book {
         ensures reply { IfOk result (λ r. r ≡ (decided self.old call).reply) }
         ensures ok { OnOk result (self.new ≡ stepped self.old call) }
         ensures err { OnErr result (self.new ≡ self.old) }
-        ensures kept { IsTrue (is_office self.new) }
+        ensures valid { IsTrue (is_office self.new) }
         ensures sure { needs_no_memory self.old call.caller call.request ≡ true → IsOk result }
         ensures refusals { is_at_once_to call.caller (decided self.old call) ≡ true → IsOk result }
     {

@@ -119,7 +119,7 @@ pub fn decide_in_meeting(
     ensures decided { IfOk result (λ a. (office : OfficeLists) → IsTrue (is_office office)
         → AreListsRead office meeting asked.now closed.now found
         → a ≡ decided office (office_call meeting now asked.now)) }
-    ensures kept { IfOk result (λ a. (office : OfficeLists) → IsTrue (is_office office)
+    ensures valid { IfOk result (λ a. (office : OfficeLists) → IsTrue (is_office office)
         → AreListsRead office meeting asked.now closed.now found
         → IsTrue (is_office (applied_if_any office a.change))) }
     ensures no_office { result ≡ Err NoOffice → IsNoMeeting asked.now found }
@@ -145,7 +145,7 @@ pub fn decide_call(
     ensures decided { IfOk result (λ a. (office : OfficeLists) (now : Moment)
         → AreMeetingsRead office new.now.meeting is_named held
         → a ≡ decided office (desk_call now (desk.CallMeeting new.now))) }
-    ensures kept { IfOk result (λ a. (office : OfficeLists) → IsTrue (is_office office)
+    ensures valid { IfOk result (λ a. (office : OfficeLists) → IsTrue (is_office office)
         → AreMeetingsRead office new.now.meeting is_named held
         → IsTrue (is_office (applied_if_any office a.change))) }
 {
@@ -158,7 +158,7 @@ pub fn decide_closed(held: &Closed, days: &DayList) -> Result<Answer<Change>, Al
     ensures decided { IfOk result (λ a. (office : OfficeLists) (now : Moment)
         → held.now ≡ office.closed
         → a ≡ decided office (desk_call now (desk.ClosedDays days.now))) }
-    ensures kept { IfOk result (λ a. (office : OfficeLists) → IsTrue (is_office office)
+    ensures valid { IfOk result (λ a. (office : OfficeLists) → IsTrue (is_office office)
         → held.now ≡ office.closed → IsTrue (is_office (applied_if_any office a.change))) }
     ensures same { same_days held.now days.now ≡ true → IsOk result }
 {
@@ -171,7 +171,7 @@ pub fn decide_keys(held: &KeyRows, rows: &KeyRows) -> Result<Answer<Change>, All
     ensures decided { IfOk result (λ a. (office : OfficeLists) (now : Moment)
         → held.now ≡ office.keys
         → a ≡ decided office (desk_call now (desk.Keys rows.now))) }
-    ensures kept { IfOk result (λ a. (office : OfficeLists) → IsTrue (is_office office)
+    ensures valid { IfOk result (λ a. (office : OfficeLists) → IsTrue (is_office office)
         → held.now ≡ office.keys → IsTrue (is_office (applied_if_any office a.change))) }
     ensures same { same_keys held.now rows.now ≡ true → IsOk result }
 {

@@ -22,10 +22,10 @@ opened Named old new file office named opens stores =
     (is, λ left same. sym same ∙ is)
 
 -- what is as it was may hold what it could hold
-pub kept : {F : Type 0} (P : F → OfficeLists → Type 0) (old new : F) (left : OfficeLists)
+pub preserved : {F : Type 0} (P : F → OfficeLists → Type 0) (old new : F) (left : OfficeLists)
     → new ≡ old → P new left
     → (was : OfficeLists) × P old was × ((office : OfficeLists) → was ≡ office → left ≡ office)
-kept {F} P old new left same it = (left, subst (λ (f : F). P f left) same it, λ office is. is)
+preserved {F} P old new left same it = (left, subst (λ (f : F). P f left) same it, λ office is. is)
 
 -- one that is closed holds its office
 pub closed : (Named : Type 0) (new : Stored) (file : OpenBook) (left : OfficeLists)

@@ -78,7 +78,7 @@ impl OfficeFiles for OfficeFileGiven<'_> {
         laws.opened (name ≡ old.name.now) old.stored new.stored file office opens.0 opens.1.0 stores };
 
     ghost refuses_held = { λ old new name end left refuses _ may.
-        laws.kept (λ files left. MayHold (name ≡ files.name.now) files.stored left)
+        laws.preserved (λ files left. MayHold (name ≡ files.name.now) files.stored left)
         old new left refuses.1 may };
 
     ghost closes_held = { λ old new name file left closes _ may.

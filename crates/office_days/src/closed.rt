@@ -54,7 +54,7 @@ impl Closed {
     pub fn from_days(alloc: Global, days: &[Day]) -> Result<Closed, DaysFault>
         ensures days { IfOk result
             (λ closed. (day : ℕ) → Contains closed day ↔ Contains days.now day) }
-        ensures kept { IfOk result (λ closed. IsTrue (is_day_list closed)) }
+        ensures valid { IfOk result (λ closed. IsTrue (is_day_list closed)) }
         ensures few { OnOk result (day_count days.now ≤ MOST_CLOSED_DAYS) }
         ensures too_many { result ≡ Err TooMany → MOST_CLOSED_DAYS < day_count days.now }
     {
@@ -76,7 +76,7 @@ impl Closed {
     /// The days, in order, each once.
     pub fn days(&self) -> &[Day]
         ensures value { result.now ≡ self.now }
-        ensures kept { IsTrue (is_day_list self.now) }
+        ensures valid { IsTrue (is_day_list self.now) }
     {
         self.days.as_slice()
     }

@@ -14,6 +14,6 @@ handed_on {X} {Y} {E} (Err e) given P f Q next is p =
     let R : Result Y E → Type 0 = λ r. IfOk r Q in subst R (sym is) tt
 
 -- the result of a poll keeps the count
-pub kept_count : (found : Option Resolution) (tally : Tally) → (result_on found tally).tally ≡ tally
-kept_count None tally = refl
-kept_count (Some resolution) tally = refl
+pub preserved_count : (found : Option Resolution) (tally : Tally) → (result_on found tally).tally ≡ tally
+preserved_count None tally = refl
+preserved_count (Some resolution) tally = refl

@@ -26,7 +26,7 @@ use Rattle.desk_words.proofs.OfficeFacts.{meeting_facts, meeting_from_facts}
 use Rattle.office_decisions.specs.OfficeRulings.{office_ruling, ruling_on}
 use Rattle.office_decisions.specs.PollRulings.{declare_ruling, declared_answer, order_ruling, result_cases, result_on}
 use Rattle.office_decisions.specs.ListsRead.{days_read, lists_read, polls_alone, RulingsReadNoMore, ReadMeetingsAreMeetings}
-use Rattle.office_decisions.proofs.OnResolution.{casts_kept, is_on, poll_kept, polls_kept}
+use Rattle.office_decisions.proofs.OnResolution.{casts_preserved, is_on, poll_preserved, polls_preserved}
 
 -- whether one that is kept passes is told from those that are kept
 any_passing : {X : Type 0} (keeps passes : X → Bool) (xs : List X) → list_any (λ x. keeps x && passes x) (filter keeps xs) ≡ list_any (λ x. keeps x && passes x) xs
@@ -55,7 +55,7 @@ declared_so resolution now closed m =
     } in
     let read = poll_on (filter (is_on resolution) m.polls) resolution in
     ap (ruled read) (own_tally (cutoffs read) m.register m.appointments m.endings m.authorities m.casts resolution)
-    ∙ ap (λ found. ruled found (tally_of (cutoffs found) m.register m.appointments m.endings m.authorities m.casts resolution)) (poll_kept resolution m.polls)
+    ∙ ap (λ found. ruled found (tally_of (cutoffs found) m.register m.appointments m.endings m.authorities m.casts resolution)) (poll_preserved resolution m.polls)
 
 -- in a meeting
 ruled_so : (what : OfficeRequest) (now : ℕ) (closed : List ℕ) (m : MeetingLists) → ruling_on (days_read what closed) now what (lists_read what m) ≡ ruling_on closed now what m
@@ -143,6 +143,6 @@ read_meeting (Declare resolution) m reads h =
       authorities = f.authorities;
       presences = refl;
       demands = refl;
-      polls = polls_kept m.meeting resolution m.polls f.polls;
-      casts = casts_kept resolution m.polls m.casts f.casts;
+      polls = polls_preserved m.meeting resolution m.polls f.polls;
+      casts = casts_preserved resolution m.polls m.casts f.casts;
     })

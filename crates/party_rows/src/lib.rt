@@ -5,5 +5,5 @@ mod look_ups;
 mod members;
 mod party_records;
 
-pub use look_ups::{rows_for, rows_of};
-pub use row_source::no_rows_of;
+pub use look_ups::{read_own_rows, read_own_rows_for};
+pub use row_source::no_own_rows;

@@ -3,8 +3,8 @@ ghost use Rattle.std.specs.Prelude.{◌≡◌, ⊤, IfOk, Some, true};
 ghost use Rattle.std.proofs.Common.{rules};
 ghost use Rattle.desk_words.specs.Ordered.{ascends_by};
 ghost use Rattle.desk_words.specs.Registers.{member_before};
-ghost use Rattle.party_views.specs.RowsRead.{rows_read};
-ghost use Rattle.party_views.specs.PartyRows.{rows_of};
+ghost use Rattle.party_views.specs.RowsRead.{own_rows_read};
+ghost use Rattle.party_views.specs.PartyRows.{own_rows};
 
 use crate::members::{claims_by, count_given_by, naming, naming_by};
 use crate::party_records::{
@@ -132,11 +132,15 @@ impl RowSource for InLists<'_> {
 /// The rows of a party in a meeting. Of what others gave, it looks up the appointments that name
 /// the party, and of the members who gave these their shares, appointments and endings; no other
 /// record is gone over. The error is want of memory.
-pub fn rows_of(alloc: Global, lists: &MeetingLists, party: Party) -> Result<OwnRows, AllocError>
+pub fn read_own_rows(
+    alloc: Global,
+    lists: &MeetingLists,
+    party: Party,
+) -> Result<OwnRows, AllocError>
     requires { ascends_by member_before lists.now.register ≡ true }
-    ensures { IfOk result (λ rows. rows ≡ rows_of lists.now party) }
+    ensures { IfOk result (λ rows. rows ≡ own_rows lists.now party) }
 {
-    row_source::rows_for(
+    row_source::read_own_rows(
         &mut InLists { alloc, lists },
         alloc,
         party,
@@ -146,16 +150,16 @@ pub fn rows_of(alloc: Global, lists: &MeetingLists, party: Party) -> Result<OwnR
 
 /// The rows of a party in a meeting that its request reads. The other rows are not looked up, and
 /// their lists are empty. The error is want of memory.
-pub fn rows_for(
+pub fn read_own_rows_for(
     alloc: Global,
     lists: &MeetingLists,
     party: Party,
     asked: &PartyRequest,
 ) -> Result<OwnRows, AllocError>
     requires { ascends_by member_before lists.now.register ≡ true }
-    ensures { IfOk result (λ rows. rows ≡ rows_read asked.now (rows_of lists.now party)) }
+    ensures { IfOk result (λ rows. rows ≡ own_rows_read asked.now (own_rows lists.now party)) }
 {
-    row_source::rows_for(
+    row_source::read_own_rows(
         &mut InLists { alloc, lists },
         alloc,
         party,

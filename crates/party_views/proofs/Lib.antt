@@ -2,4 +2,4 @@ pub mod CountedLemmas
 pub mod FindLemmas
 pub mod Numbering
 pub mod OwnLemmas
-pub mod ViewKeptLemmas
+pub mod ViewPreservedLemmas

@@ -1,12 +1,13 @@
 -- What of a party's own things the answer to a request reads is made of what it reads of the rows.
-use Rattle.std.proofs.Common.{◌≡◌, ℕ, Bool, true, false, cond, List, [], ◌∷◌, find, filter, map, refl, sym, ap, subst, ◌∙◌}
+use Rattle.std.proofs.Common.{◌≡◌, ℕ, Bool, true, false, ◌||◌, cond, List, [], ◌∷◌, find, filter, map, Some, refl, sym, ap, subst, ◌∙◌, true≢false}
 use Rattle.std.specs.Prelude.{◌==◌, reverse, Option}
+use Rattle.std.specs.List.{AllByRecursion, list_any}
 use Rattle.std.specs.Option.{option_map_or}
 use Rattle.std.proofs.lemmas.Simd.{map-map}
 use Rattle.vocabulary.specs.Names.{same_name}
 use Rattle.vocabulary.specs.declared.kinds.Capacity.{Capacity}
 use Rattle.vocabulary.specs.declared.kinds.Capacity.TheVariants.{Member, Rep, Proxy}
-use Rattle.desk_words.proofs.WordRowLemmas.{same_name-true}
+use Rattle.desk_words.proofs.WordRowLemmas.{same_name-refl, same_name-true}
 use Rattle.desk_words.specs.declared.own_things.Authorised.{Authorised}
 use Rattle.desk_words.specs.declared.own_things.PollGoverned.{PollGoverned}
 use Rattle.desk_words.specs.declared.own_things.Received.{Received}
@@ -24,7 +25,7 @@ use Rattle.party_views.specs.OwnViews.{authorised_in_rows, governed_by, governed
 use Rattle.party_views.specs.SessionLists.{each_session}
 use Rattle.party_views.specs.declared.reads.Reads.{Reads}
 use Rattle.party_views.specs.declared.reads.Reads.TheVariants.{Standing, Vote, AsInstructed}
-use Rattle.party_views.specs.RowsRead.{appointments_read, authorised_read, authorities_read, cast_on, for_poll, members_read, own_part, own_read, polls_part, polls_on, polls_read, reads_of, received_read, row_read, rows_part, rows_read}
+use Rattle.party_views.specs.RowsRead.{appointments_read, authorised_read, authorities_read, cast_on, for_poll, gave_one_of, is_instructed_by, is_instructing, members_read, own_part, own_read, polls_part, polls_on, polls_read, reads_of, received_read, row_read, own_rows_part, own_rows_read}
 use Rattle.party_views.specs.declared.own_rows.AuthorityRows.{AuthorityRows}
 use Rattle.party_views.specs.declared.own_rows.MemberRows.{MemberRows}
 use Rattle.party_views.specs.declared.own_rows.OwnRows.{OwnRows}
@@ -77,6 +78,49 @@ governed-by_member members cutoffs member name number same =
     subst (λ (n : List ℕ). governed_by (filter (of_member member) members) cutoffs n number ≡ governed_by members cutoffs n number) (sym (same_name-true name member same))
     (ap (λ (o : Option MemberRows). option_map_or (λ (rows : MemberRows). governed_in_holding cutoffs rows.holding number) o []) found)
 
+-- what is found stays where what passes is left
+found-left : {X : Type 0} (test leaves : X → Bool) (xs : List X) → ((x : X) → test x ≡ true → leaves x ≡ true) → find test (filter leaves xs) ≡ find test xs
+found-left test leaves [] so = refl
+found-left test leaves (x ∷ xs) so =
+    let rest = found-left test leaves xs so in
+    (elim (leaves x) as (λ b. leaves x ≡ b → find test (cond b (x ∷ filter leaves xs) (filter leaves xs)) ≡ cond (test x) (Some x) (find test xs)) [
+      | true ↦ λ _. ap (λ o. cond (test x) (Some x) o) rest
+      | false ↦ λ out. (elim (test x) as (λ c. test x ≡ c → find test (filter leaves xs) ≡ cond c (Some x) (find test xs)) [
+        | true ↦ λ passes. absurd (true≢false (sym (so x passes) ∙ out))
+        | false ↦ λ _. rest
+      ]) refl
+    ]) refl
+
+-- what an appointment of a member who gave one of some governs is read from the rows of those who did
+governed-by_givers : (members : List MemberRows) (cutoffs : Cutoffs) (given : List Appointment) (member : List ℕ) (number : ℕ) → list_any (is_given_by member) given ≡ true
+    → governed_by (filter (gave_one_of given) members) cutoffs member number ≡ governed_by members cutoffs member number
+governed-by_givers members cutoffs given member number gave =
+    let so : (rows : MemberRows) → of_member member rows ≡ true → gave_one_of given rows ≡ true =
+    λ rows is. ap (λ (n : List ℕ). list_any (is_given_by n) given) (same_name-true rows.member member is) ∙ gave in
+    ap (λ (o : Option MemberRows). option_map_or (λ (rows : MemberRows). governed_in_holding cutoffs rows.holding number) o [])
+    (ap (find (of_member member)) (reverse-filter (gave_one_of given) members) ∙ found-left (of_member member) (gave_one_of given) (reverse members) so)
+
+-- of a list of appointments each member gave one
+gives : (all given : List Appointment) → ((member : List ℕ) → list_any (is_given_by member) given ≡ true → list_any (is_given_by member) all ≡ true) → (P : Appointment → Type 0)
+    → ((a : Appointment) → list_any (is_given_by a.member) all ≡ true → P a) → AllByRecursion P given
+gives all [] among P each = tt
+gives all (a ∷ given) among P each = (
+  each a (among a.member (ap (λ b. b || list_any (is_given_by a.member) given) (same_name-refl a.member))),
+  gives all given (λ member is. among member (behind (is_given_by member a) (list_any (is_given_by member) given) is)) P each,
+)
+  where
+    behind : (a b : Bool) → b ≡ true → (a || b) ≡ true
+    behind true b is = refl
+    behind false b is = is
+
+each-of_all : (P : Appointment → Type 0) (given : List Appointment) → ((a : Appointment) → list_any (is_given_by a.member) given ≡ true → P a) → AllByRecursion P given
+each-of_all P given each = gives given given (λ member is. is) P each
+
+-- what is the same for each makes the same list
+map-each : {X Y : Type 0} (f g : X → Y) (xs : List X) → AllByRecursion (λ x. f x ≡ g x) xs → map f xs ≡ map g xs
+map-each f g [] same = refl
+map-each f g (x ∷ xs) same = let tail = map-each f g xs same.1 in let head = same.0 in λ i. head i ∷ tail i
+
 module _ (members : List MemberRows) (closed : List ℕ) (meeting : Meeting) (polls : List Poll) (now : ℕ) where
   -- what a party knows of an appointment of a member is read from the member's rows
   known-by_member : (member : List ℕ) (on : List Poll) (a : Appointment) → is_given_by member a ≡ true
@@ -107,6 +151,35 @@ module _ (members : List MemberRows) (closed : List ℕ) (meeting : Meeting) (po
       → map (received_by members closed meeting (polls_on resolution polls) now) given ≡ map (for_poll resolution) (map (received_by members closed meeting polls now) given)
   all_for_poll resolution given =
       (λ i. map (λ a. for_poll-alike resolution a i) given) ∙ sym (map-map (for_poll resolution) (received_by members closed meeting polls now) given)
+
+  -- what an appointment governs is read from the rows of those who gave one of some, where its member did
+  known-by_givers : (given : List Appointment) (on : List Poll) (a : Appointment) → list_any (is_given_by a.member) given ≡ true
+      → received_by (filter (gave_one_of given) members) closed meeting on now a ≡ received_by members closed meeting on now a
+  known-by_givers given on a gave =
+      let governed = λ (cutoffs : Cutoffs). governed-by_givers members cutoffs given a.member a.number gave in
+      let sessions : each_session (session_governed (filter (gave_one_of given) members) closed meeting now a.member a.number) meeting
+      ≡ each_session (session_governed members closed meeting now a.member a.number) meeting =
+      λ i. each_session (λ session. record {
+        acts = governed (cutoffs_of meeting (uses.Acts session) closed now) i;
+        votes = governed (cutoffs_of meeting (uses.Votes session) closed now) i;
+      }) meeting in
+      let late : map (poll_governed (filter (gave_one_of given) members) closed meeting now a.member a.number) (filter (is_late_poll closed) on)
+      ≡ map (poll_governed members closed meeting now a.member a.number) (filter (is_late_poll closed) on) =
+      ap (λ f. map f (filter (is_late_poll closed) on))
+      (λ i (poll : Poll). record { resolution = poll.resolution; governs = governed (cutoffs_of meeting (uses.Vote poll) closed now) i }) in
+      λ i. known_to_proxy a (sessions i) (late i)
+
+  -- what votes as instructed read of the appointments
+  received-instructing : (resolution : ℕ) (received : List Appointment)
+      → map (received_by (filter (gave_one_of (filter (is_instructing resolution) received)) members) closed meeting (polls_on resolution polls) now) (filter (is_instructing resolution) received)
+      ≡ map (for_poll resolution) (filter (is_instructed_by resolution) (map (received_by members closed meeting polls now) received))
+  received-instructing resolution received =
+      let given = filter (is_instructing resolution) received in
+      let on = polls_on resolution polls in
+      map-each (received_by (filter (gave_one_of given) members) closed meeting on now) (received_by members closed meeting on now) given
+      (each-of_all (λ a. received_by (filter (gave_one_of given) members) closed meeting on now a ≡ received_by members closed meeting on now a) given (known-by_givers given on))
+      ∙ all_for_poll resolution given
+      ∙ ap (map (for_poll resolution)) (sym (filter-map (is_instructed_by resolution) (received_by members closed meeting polls now) received))
 
   -- what a vote reads of the appointments
   received-read : (new : NewCast) (capacity : Capacity) (received : List Appointment)
@@ -140,9 +213,9 @@ received-standing true members closed meeting polls now received = refl
 received-standing false members closed meeting polls now received = refl
 
 -- the own things that are read, from the rows that are read
-own-kept : (reads : Reads) (all : OwnRows) (closed : List ℕ) (meeting : Meeting) (polls : List Poll) (now : ℕ)
-    → own_by (rows_part reads all) closed meeting (polls_part reads polls) now ≡ own_part reads (own_by all closed meeting polls now)
-own-kept (Vote new) all closed meeting polls now =
+own-of-part : (reads : Reads) (all : OwnRows) (closed : List ℕ) (meeting : Meeting) (polls : List Poll) (now : ℕ)
+    → own_by (own_rows_part reads all) closed meeting (polls_part reads polls) now ≡ own_part reads (own_by all closed meeting polls now)
+own-of-part (Vote new) all closed meeting polls now =
     let received = received-read all.members closed meeting polls now new new.capacity all.received in
     let authorised = authorised-read new new.capacity all.authorised in
     λ i. record {
@@ -157,16 +230,16 @@ own-kept (Vote new) all closed meeting polls now =
       demands = [];
       casts = cast_on new.resolution all.casts;
     }
-own-kept Standing all closed meeting polls now =
+own-of-part Standing all closed meeting polls now =
     let received = received-standing (holds_as_individual all.row) all.members closed meeting polls now all.received in
     let authorised = made-unless (holds_as_individual all.row) authorised_in_rows all.authorised in
     λ i. record (own_part Standing (own_by all closed meeting polls now)) { received = received i; authorised = authorised i }
-own-kept (AsInstructed resolution) all closed meeting polls now =
-    let received = all_for_poll all.members closed meeting polls now resolution all.received in
+own-of-part (AsInstructed resolution) all closed meeting polls now =
+    let received = received-instructing all.members closed meeting polls now resolution all.received in
     λ i. record (own_part (AsInstructed resolution) (own_by all closed meeting polls now)) { received = received i }
-own-kept other all closed meeting polls now = refl
+own-of-part other all closed meeting polls now = refl
 
 -- the own things that an answer reads, from the rows that it reads
 pub own-read : (asked : PartyRequest) (all : OwnRows) (closed : List ℕ) (meeting : Meeting) (polls : List Poll) (now : ℕ)
-    → own_by (rows_read asked all) closed meeting (polls_read asked polls) now ≡ own_read asked (own_by all closed meeting polls now)
-own-read asked = own-kept (reads_of asked)
+    → own_by (own_rows_read asked all) closed meeting (polls_read asked polls) now ≡ own_read asked (own_by all closed meeting polls now)
+own-read asked = own-of-part (reads_of asked)

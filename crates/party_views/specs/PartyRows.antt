@@ -40,8 +40,8 @@ presences_of party presences =
     map (λ (mark : PresenceMark). mark.session) (filter (is_presence_of party) presences)
 
 -- the rows of a party in a meeting
-abbrev pub rows_of : MeetingLists → Party → OwnRows
-rows_of m party = record {
+abbrev pub own_rows : MeetingLists → Party → OwnRows
+own_rows m party = record {
   party = party;
   row = row_of m.register party;
   given = filter (is_given_by party) m.appointments;
@@ -57,8 +57,8 @@ rows_of m party = record {
 }
 
 -- the rows of a party where there is no meeting
-abbrev pub no_rows_of : Party → OwnRows
-no_rows_of party = record {
+abbrev pub no_own_rows : Party → OwnRows
+no_own_rows party = record {
   party = party;
   row = None;
   given = [];
@@ -74,6 +74,6 @@ no_rows_of party = record {
 }
 
 -- the rows of a party in a meeting, if there is one
-abbrev pub rows_in : Option MeetingLists → Party → OwnRows
-rows_in None party = no_rows_of party
-rows_in (Some m) party = rows_of m party
+abbrev pub own_rows_in : Option MeetingLists → Party → OwnRows
+own_rows_in None party = no_own_rows party
+own_rows_in (Some m) party = own_rows m party

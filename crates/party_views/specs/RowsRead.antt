@@ -1,5 +1,6 @@
 -- What of a party's own things the answer to its request reads.
-use Rattle.std.specs.Prelude.{List, [], map, filter, Option, None, ◌==◌, if◌then◌else◌, Some}
+use Rattle.std.specs.Prelude.{Bool, List, [], map, filter, Option, None, ◌==◌, if◌then◌else◌, is_some, Some}
+use Rattle.std.specs.List.{list_any}
 use Rattle.desk_words.specs.Names.{same_name}
 use Rattle.desk_words.specs.ViewTypes.{Number}
 use Rattle.vocabulary.specs.declared.kinds.Capacity.{Capacity}
@@ -15,8 +16,9 @@ use Rattle.desk_words.specs.declared.request.NewCast.{NewCast}
 use Rattle.desk_words.specs.declared.request.PartyRequest.{PartyRequest}
 use Rattle.desk_words.specs.declared.request.PartyRequest.TheVariants.{Notice, Mine, Appoint, End, Authorise, Attend, Demand, Cast, Instructed}
 use Rattle.proxy_rules.specs.Holdings.{is_given_by}
+use Rattle.proxy_rules.specs.Instructions.{instructed_on}
 use Rattle.party_views.specs.OwnViews.{holds_as_individual, nothing_of}
-use Rattle.party_views.specs.PartyRows.{no_rows_of}
+use Rattle.party_views.specs.PartyRows.{no_own_rows}
 use Rattle.party_views.specs.declared.reads.Reads.{Reads}
 use Rattle.party_views.specs.declared.reads.Reads.TheVariants.{Nothing, Everything, Given, GivenCount, Persons, Presence, Standing, Vote, AsInstructed}
 use Rattle.party_views.specs.declared.own_rows.AuthorityRows.{AuthorityRows}
@@ -63,6 +65,18 @@ received_read new received Proxy =
     (filter (λ (r : Received). same_name r.member new.member) received)
 received_read new received other = []
 
+-- an appointment instructs its proxy on a resolution (section 324A)
+abbrev pub is_instructing : Number → Appointment → Bool
+is_instructing resolution a = is_some (instructed_on resolution a.instructions)
+
+-- and as its proxy knows it
+abbrev pub is_instructed_by : Number → Received → Bool
+is_instructed_by resolution r = is_some (instructed_on resolution r.instructions)
+
+-- the member gave one of the appointments
+abbrev pub gave_one_of : List Appointment → MemberRows → Bool
+gave_one_of given rows = list_any (is_given_by rows.member) given
+
 -- what of a party's own things the answer to a request reads
 abbrev pub reads_of : PartyRequest → Reads
 reads_of Notice = Nothing
@@ -97,7 +111,7 @@ own_part (Vote new) own = record (nothing_of own.party) {
   casts = cast_on new.resolution own.casts;
 }
 own_part (AsInstructed resolution) own = record (nothing_of own.party) {
-  received = map (for_poll resolution) own.received;
+  received = map (for_poll resolution) (filter (is_instructed_by resolution) own.received);
   casts = cast_on resolution own.casts;
 }
 
@@ -125,17 +139,17 @@ members_read new members other = []
 
 -- of the rows of a party the appointments that it gave, and their endings
 abbrev pub given_read : OwnRows → OwnRows
-given_read rows = record (no_rows_of rows.party) { given = rows.given; ended = rows.ended }
+given_read rows = record (no_own_rows rows.party) { given = rows.given; ended = rows.ended }
 
 -- those of the rows from which what is read is made, and nothing in place of the others
-abbrev pub rows_part : Reads → OwnRows → OwnRows
-rows_part Nothing rows = no_rows_of rows.party
-rows_part Everything rows = rows
-rows_part Given rows = given_read rows
-rows_part GivenCount rows = record (no_rows_of rows.party) { given_count = rows.given_count }
-rows_part Persons rows = record (no_rows_of rows.party) { persons = rows.persons }
-rows_part Presence rows = record (no_rows_of rows.party) { presences = rows.presences }
-rows_part Standing rows = record (no_rows_of rows.party) {
+abbrev pub own_rows_part : Reads → OwnRows → OwnRows
+own_rows_part Nothing rows = no_own_rows rows.party
+own_rows_part Everything rows = rows
+own_rows_part Given rows = given_read rows
+own_rows_part GivenCount rows = record (no_own_rows rows.party) { given_count = rows.given_count }
+own_rows_part Persons rows = record (no_own_rows rows.party) { persons = rows.persons }
+own_rows_part Presence rows = record (no_own_rows rows.party) { presences = rows.presences }
+own_rows_part Standing rows = record (no_own_rows rows.party) {
   row = rows.row;
   received = unless_individual rows.row rows.received;
   members = unless_individual rows.row rows.members;
@@ -143,22 +157,24 @@ rows_part Standing rows = record (no_rows_of rows.party) {
   presences = rows.presences;
   demands = rows.demands;
 }
-rows_part (Vote new) rows = record (no_rows_of rows.party) {
+own_rows_part (Vote new) rows = record (no_own_rows rows.party) {
   row = row_read rows.row new.capacity;
   received = appointments_read new rows.received new.capacity;
   members = members_read new rows.members new.capacity;
   authorised = authorities_read new rows.authorised new.capacity;
   casts = cast_on new.resolution rows.casts;
 }
-rows_part (AsInstructed resolution) rows = record (no_rows_of rows.party) {
-  received = rows.received;
-  members = rows.members;
-  casts = cast_on resolution rows.casts;
-}
+own_rows_part (AsInstructed resolution) rows =
+    let instructing = filter (is_instructing resolution) rows.received in
+    record (no_own_rows rows.party) {
+      received = instructing;
+      members = filter (gave_one_of instructing) rows.members;
+      casts = cast_on resolution rows.casts;
+    }
 
 -- those of the rows from which what the answer to a request reads is made
-abbrev pub rows_read : PartyRequest → OwnRows → OwnRows
-rows_read asked rows = rows_part (reads_of asked) rows
+abbrev pub own_rows_read : PartyRequest → OwnRows → OwnRows
+own_rows_read asked rows = own_rows_part (reads_of asked) rows
 
 -- the resolution on whose poll alone it is: that of a vote; else none is named
 abbrev pub resolution_read : Reads → Option Number

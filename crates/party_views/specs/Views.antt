@@ -6,7 +6,7 @@ use Rattle.desk_words.specs.declared.office.OfficeLists.{OfficeLists}
 use Rattle.desk_words.specs.declared.office.MeetingLists.{MeetingLists}
 use Rattle.desk_words.specs.declared.records.Poll.{Poll}
 use Rattle.party_views.specs.OwnViews.{own_from}
-use Rattle.party_views.specs.PartyRows.{rows_in, rows_of}
+use Rattle.party_views.specs.PartyRows.{own_rows_in, own_rows}
 use Rattle.party_views.specs.Public.{PublicRecord}
 use Rattle.party_views.specs.declared.views.OwnView.{OwnView}
 
@@ -34,14 +34,14 @@ public_of office id = public_in (meeting_at office id) office.closed
 -- the own things of a party in a meeting that is found, by the closed days as they stand, at a
 -- moment
 abbrev pub own_in_some : Option MeetingLists → List Day → Party → Moment → OwnView
-own_in_some found closed party now = own_from (rows_in found party) (public_in found closed) now
+own_in_some found closed party now = own_from (own_rows_in found party) (public_in found closed) now
 
 -- the own things of a party in a meeting, by the closed days as they stand, at a moment
 abbrev pub own_in : MeetingLists → List Day → Party → Moment → OwnView
-own_in m closed party now = own_from (rows_of m party) (public_in (Some m) closed) now
+own_in m closed party now = own_from (own_rows m party) (public_in (Some m) closed) now
 
 -- the own things of a party in a meeting of an office, at a moment: from its rows and the public
 -- record
 abbrev pub own_of : OfficeLists → Party → MeetingName → Moment → OwnView
 own_of office party id now =
-    own_from (rows_in (meeting_at office id) party) (public_of office id) now
+    own_from (own_rows_in (meeting_at office id) party) (public_of office id) now

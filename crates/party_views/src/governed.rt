@@ -185,7 +185,7 @@ fn late_polls(
 }
 
 /// What an appointment of a holding governs, by its number.
-fn governed_kept(
+fn governed_by_claims(
     alloc: Global,
     cutoffs: &Cutoffs,
     holding: &Claims,
@@ -240,7 +240,7 @@ impl<'a> Members<'a> {
     {
         match self.rows_by(member) {
             Some(rows) => {
-                let runs = governed_kept(alloc, cutoffs, &rows.holding, number)?;
+                let runs = governed_by_claims(alloc, cutoffs, &rows.holding, number)?;
                 Ok(Listing::from_vec(runs))
             }
             None => Ok(Listing::new(alloc)),

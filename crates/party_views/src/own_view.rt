@@ -2,8 +2,8 @@
 ghost use Rattle.std.specs.Prelude.{◌≡◌, IfOk};
 ghost use Rattle.desk_words.specs.declared.office.MeetingLists.{MeetingLists};
 ghost use Rattle.party_views.specs.OwnViews.{nothing_of, own_by, own_from};
-ghost use Rattle.party_views.specs.RowsRead.{own_read, polls_if_on, reads_of, resolution_read, rows_read};
-ghost use Rattle.party_views.specs.PartyRows.{rows_of};
+ghost use Rattle.party_views.specs.RowsRead.{own_read, polls_if_on, reads_of, resolution_read, own_rows_read};
+ghost use Rattle.party_views.specs.PartyRows.{own_rows};
 ghost use Rattle.party_views.specs.Views.{own_in, public_in};
 ghost use Rattle.party_views.specs.declared.own_rows.OwnRows.{OwnRows};
 
@@ -90,7 +90,7 @@ pub fn own_from(
     now: Moment,
 ) -> Result<OwnView, AllocError>
     ensures value { IfOk result (λ own. own ≡ own_from rows public.now now) }
-    ensures of_every_meeting { (m : MeetingLists) → rows ≡ rows_of m rows.party
+    ensures of_every_meeting { (m : MeetingLists) → rows ≡ own_rows m rows.party
         → public.now ≡ public_in (Some m) public.now.closed
         → IfOk result (λ own. own ≡ own_in m public.now.closed rows.party now) }
 {
@@ -129,7 +129,7 @@ pub fn own_for(
     now: Moment,
     asked: &PartyRequest,
 ) -> Result<OwnView, AllocError>
-    ensures { IfOk result (λ own. (all : OwnRows) → rows ≡ rows_read asked.now all
+    ensures { IfOk result (λ own. (all : OwnRows) → rows ≡ own_rows_read asked.now all
         → own ≡ own_read asked.now (own_from all public.now now)) }
 {
     match public.meeting {

@@ -5,7 +5,7 @@ use Rattle.std.specs.Cmp.Lexicographic.{texts_ties}
 use Rattle.std.specs.List.{list_any}
 use Rattle.std.specs.Option.{option_map_or, UnwrapsOrElse}
 use Rattle.std.specs.Ordering.{is_eq}
-use Rattle.seq.proofs.Kept.{any-filter}
+use Rattle.seq.proofs.Filtered.{any-filter}
 use Rattle.vocabulary.specs.Names.{same_name, name_cmp}
 use Rattle.desk_words.proofs.WordRowLemmas.{same_name-true}
 use Rattle.desk_words.specs.declared.records.Authority.{Authority}

@@ -62,8 +62,8 @@ record Limits (rows : List RegisterRow) : Type 0 where
 limits : (rows : List RegisterRow) → are_rows rows ≡ true → Limits rows
 limits [] h = record { few = omega arith; each = refl; shares = omega arith }
 limits (row ∷ rows) h =
-    let kept = first_so (keep_limits (row ∷ rows)) (ascends_by member_before (row ∷ rows)) h in
-    let front = first_so (nat_le 1 (length (row ∷ rows)) && nat_le (length (row ∷ rows)) 20000 && list_all is_holding (row ∷ rows)) (nat_le (all_shares (row ∷ rows)) MOST_SHARES) kept in
+    let preserved = first_so (keep_limits (row ∷ rows)) (ascends_by member_before (row ∷ rows)) h in
+    let front = first_so (nat_le 1 (length (row ∷ rows)) && nat_le (length (row ∷ rows)) 20000 && list_all is_holding (row ∷ rows)) (nat_le (all_shares (row ∷ rows)) MOST_SHARES) preserved in
     let sizes = first_so (nat_le 1 (length (row ∷ rows)) && nat_le (length (row ∷ rows)) 20000) (list_all is_holding (row ∷ rows)) front in
     record {
       few = leb-true (length (row ∷ rows)) 20000 (second_so (nat_le 1 (length (row ∷ rows))) (nat_le (length (row ∷ rows)) 20000) sizes);

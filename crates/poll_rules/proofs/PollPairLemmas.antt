@@ -3,7 +3,7 @@ use Rattle.std.proofs.Common.{◌≡◌, ℕ, Bool, true, false, List, [], ◌�
 use Rattle.std.specs.Prelude.{Option, Some, None, ◌&&◌, not, find}
 use Rattle.std.specs.List.{list_any}
 use Rattle.std.specs.Option.{option_map_or}
-use Rattle.seq.proofs.Kept.{found-any, found-passes, none-found, none-narrower}
+use Rattle.seq.proofs.Filtered.{found-any, found-passes, none-found, none-narrower}
 use Rattle.std.proofs.lemmas.Bool.{not-false}
 use Rattle.std.specs.Cmp.{first_so, second_so}
 use Rattle.vocabulary.specs.Names.{same_name}

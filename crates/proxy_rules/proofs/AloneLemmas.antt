@@ -9,7 +9,7 @@ use Rattle.std.proofs.lemmas.Bool.Decides.{nat_tests}
 use Rattle.std.proofs.lemmas.List.{append-nil, length-drop, reverse-append, take_all}
 use Rattle.std.proofs.lemmas.List.Folds.{find-append, list_any-append}
 use Rattle.std.proofs.Math.Bool.{or_comm}
-use Rattle.seq.proofs.Kept.{found-any, found-passes, none-found}
+use Rattle.seq.proofs.Filtered.{found-any, found-passes, none-found}
 use Rattle.vocabulary.specs.Places.{Places, holds, is_range}
 use Rattle.vocabulary.specs.declared.range.TheConstants.{MOST_PLACES}
 use Rattle.desk_words.specs.declared.records.Appointment.{Appointment}

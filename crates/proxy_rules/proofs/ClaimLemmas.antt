@@ -37,12 +37,12 @@ last_claim cutoffs place (a ∷ rest) =
     ∙ ap (option_map claim_of) (sym (ap (find over) (reverse-append (a ∷ []) rest) ∙ find-append over (reverse rest) (a ∷ [])))
 
 module _ (cutoffs : Cutoffs) (holding : Holding) (number : ℕ) where
-  told : (share : Bool) (o : Option Appointment)
+  governed_so : (share : Bool) (o : Option Appointment)
       → option_map_or (λ (a : Appointment). a.number == number) (cond share (option_and_then (unended cutoffs (claims_of holding)) (option_map claim_of o)) None) false
       ≡ option_map_or (λ (a : Appointment). a.number == number) (cond share (option_and_then (unended cutoffs holding) o) None) false
-  told false o = refl
-  told true None = refl
-  told true (Some a) =
+  governed_so false o = refl
+  governed_so true None = refl
+  governed_so true (Some a) =
       elim (is_ended cutoffs holding a)
       as (λ b. option_map_or (λ (x : Appointment). x.number == number) (cond b None (Some (claim_of a))) false
       ≡ option_map_or (λ (x : Appointment). x.number == number) (cond b None (Some a)) false) [
@@ -54,7 +54,7 @@ module _ (cutoffs : Cutoffs) (holding : Holding) (number : ℕ) where
   governs_alike place =
       ap (λ o. option_map_or (λ (a : Appointment). a.number == number) (cond (is_share holding.shares place) (option_and_then (unended cutoffs (claims_of holding)) o) None) false)
       (last_claim cutoffs place holding.appointed)
-      ∙ told (is_share holding.shares place) (find (is_over cutoffs place) (reverse holding.appointed))
+      ∙ governed_so (is_share holding.shares place) (find (is_over cutoffs place) (reverse holding.appointed))
 
   pub governed_alike : governed_in cutoffs (claims_of holding) number ≡ governed_in cutoffs holding number
   governed_alike =
@@ -75,15 +75,15 @@ valid_alike holding =
     ap (λ b. (b && are_tags (map claim_of holding.appointed)) && nat_le holding.shares MOST_PLACES) (numbered_alike 0 holding.appointed)
     ∙ ap (λ b. (are_numbered_from 0 holding.appointed && b) && nat_le holding.shares MOST_PLACES) (tags_alike holding.appointed)
 
-pub claims_kept : (holding : Holding) → IsValidHolding holding → IsValidHolding (claims_of holding)
-claims_kept holding kept = record {
-  numbered = numbered_alike 0 holding.appointed ∙ kept.numbered;
-  tagged = tags_alike holding.appointed ∙ kept.tagged;
-  few = kept.few;
+pub claims_valid : (holding : Holding) → IsValidHolding holding → IsValidHolding (claims_of holding)
+claims_valid holding valid = record {
+  numbered = numbered_alike 0 holding.appointed ∙ valid.numbered;
+  tagged = tags_alike holding.appointed ∙ valid.tagged;
+  few = valid.few;
 }
 
-pub kept_so : (holding : Holding) → is_valid_holding holding ≡ true → IsValidHolding holding
-kept_so holding is =
+pub valid_so : (holding : Holding) → is_valid_holding holding ≡ true → IsValidHolding holding
+valid_so holding is =
     let all = and_parts (are_numbered_from 0 holding.appointed && are_tags holding.appointed) (nat_le holding.shares MOST_PLACES) is in
     let listed = and_parts (are_numbered_from 0 holding.appointed) (are_tags holding.appointed) all.0 in
     record { numbered = listed.0; tagged = listed.1; few = leb-true holding.shares MOST_PLACES all.1 }

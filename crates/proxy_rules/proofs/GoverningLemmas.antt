@@ -126,7 +126,7 @@ by_tag cutoffs holding has_ended (Some a) fits =
       | false ↦ sym f.placed
     ]) ∙ ap (λ b. at_tag holding (cond b None (Some a.number))) (sym f.ended)
 
-module _ (admitted has_ended : ℕ → Bool) (tags_pass : (tag : ℕ) → is_tag tag ≡ true → admitted tag ≡ true) (cutoffs : Cutoffs) (holding : Holding) (kept : IsValidHolding holding)
+module _ (admitted has_ended : ℕ → Bool) (tags_pass : (tag : ℕ) → is_tag tag ≡ true → admitted tag ≡ true) (cutoffs : Cutoffs) (holding : Holding) (valid : IsValidHolding holding)
     (ended : (tag : ℕ) → is_tag tag ≡ true → has_ended tag ≡ list_any (ends cutoffs tag) holding.ended)
     (pieces : List Piece) (newest : (place : ℕ) → is_place place ≡ true → find admitted (tags_at pieces place) ≡ newest_of admitted (covers_by cutoffs holding.appointed) place) where
   governing_tag : (place : ℕ) → 1 ≤ place → place ≤ holding.shares → governing_in cutoffs holding place ≡ at_tag holding (tag_over admitted has_ended pieces place)
@@ -135,12 +135,12 @@ module _ (admitted has_ended : ℕ → Bool) (tags_pass : (tag : ℕ) → is_tag
       (and_from (nat_le 1 place) (nat_le place holding.shares) (le-leb 1 place low) (le-leb place holding.shares high))
       ∙ by_tag cutoffs holding has_ended (last_over cutoffs holding place)
       (λ a found. record {
-        ended = ended a.number (found_tag (is_over cutoffs place) (reverse holding.appointed) a (tags-reversed holding.appointed kept.tagged) found);
-        placed = (found_placed (is_over cutoffs place) 0 holding.appointed a kept.numbered found).1;
+        ended = ended a.number (found_tag (is_over cutoffs place) (reverse holding.appointed) a (tags-reversed holding.appointed valid.tagged) found);
+        placed = (found_placed (is_over cutoffs place) 0 holding.appointed a valid.numbered found).1;
       })
       ∙ ap (λ o. at_tag holding (option_and_then (if_unended has_ended) o))
-      (sym (newest place (and_from (nat_le 1 place) (nat_le place MOST_PLACES) (le-leb 1 place low) (le-leb place MOST_PLACES (omega (arith, high, kept.few))))
-      ∙ newest_over admitted tags_pass cutoffs place holding kept.tagged))
+      (sym (newest place (and_from (nat_le 1 place) (nat_le place MOST_PLACES) (le-leb 1 place low) (le-leb place MOST_PLACES (omega (arith, high, valid.few))))
+      ∙ newest_over admitted tags_pass cutoffs place holding valid.tagged))
 
   -- one appointment governs all that the holding has of a range whose places have the same tags
   one_governed : (range : Places) (to : ℕ) → 1 ≤ range.from → to ≤ holding.shares → to ≤ range.to → AreAlike pieces range
@@ -165,7 +165,7 @@ module _ (admitted has_ended : ℕ → Bool) (tags_pass : (tag : ℕ) → is_tag
       elim (cases_lt holding.shares range.from) [
         | inl past ↦ subst with_held (sym (no_range range.from to (omega (arith, min-le_left holding.shares range.to)))) rest
         | inr here ↦
-            subst with_held (sym (within_range range.from to (omega (arith, f.begins)) (omega (arith, f.begins, f.within)) (omega (arith, min-le_left holding.shares range.to, kept.few))))
+            subst with_held (sym (within_range range.from to (omega (arith, f.begins)) (omega (arith, f.begins, f.within)) (omega (arith, min-le_left holding.shares range.to, valid.few))))
             (All-cons (IsGoverned cutoffs holding) (record { range = record { from = range.from; to = to }; by = option_map (λ number. number - 1) tag }) others
             (one_governed range to (omega (arith, f.begins)) (min-le_left holding.shares range.to) (min-le_right holding.shares range.to) (All-head (AreAlike pieces) range ranges alike)) rest)
       ]
@@ -183,6 +183,6 @@ module _ (admitted has_ended : ℕ → Bool) (tags_pass : (tag : ℕ) → is_tag
   -- what a holding has of the ranges that its appointments leave are its pieces
   pub are_pieces : (ranges : List Places) → follow_from 1 ranges ≡ true → All (AreAlike pieces) ranges → ArePieces cutoffs holding (filter_map (piece_over admitted has_ended pieces holding.shares) ranges)
   are_pieces ranges all alike = record {
-    tiled = ap (λ l. are_tiled 1 l holding.shares) (ranges_of-over ranges) ∙ tiled-held holding.shares ranges kept.few all;
+    tiled = ap (λ l. are_tiled 1 l holding.shares) (ranges_of-over ranges) ∙ tiled-held holding.shares ranges valid.few all;
     governed = all_governed 1 ranges (omega arith) all alike;
   }

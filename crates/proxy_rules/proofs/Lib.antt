@@ -3,7 +3,7 @@ pub mod ClaimLemmas
 pub mod EndedTags
 pub mod GovernedRuns
 pub mod GoverningLemmas
-pub mod ProxyKeptLemmas
+pub mod ProxyValidLemmas
 pub mod ProxyListLemmas
 pub mod ProxyNameLemmas
 pub mod ProxyRunLemmas

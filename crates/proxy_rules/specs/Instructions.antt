@@ -31,4 +31,4 @@ instructed_on resolution instructions =
 
 -- a proxy who is so instructed, or free, may vote that way
 abbrev pub allows : Option Way → Way → Bool
-allows instructed way = option_map_or (λ told. same_way told way) instructed true
+allows instructed way = option_map_or (λ wanted. same_way wanted way) instructed true

@@ -137,7 +137,7 @@ fn are_few(appointed: &[Claim]) -> bool
 }
 
 /// Whether the appointments are numbered 1, 2, .. up to 256, and each of so many shares has a place.
-fn are_kept(shares: u64, appointed: &[Claim]) -> bool
+fn are_valid(shares: u64, appointed: &[Claim]) -> bool
     ensures { result ≡ (are_numbered_from 0 appointed.now && are_tags appointed.now
         && nat_le shares MOST_PLACES) }
 {
@@ -149,10 +149,10 @@ impl Holding {
     /// error is want of memory.
     pub fn is_valid(&self, alloc: Global) -> Result<bool, AllocError>
         ensures value { IfOk result (λ is. is ≡ is_valid_holding self.now) }
-        ensures kept { result ≡ Ok true → IsValidHolding self.now }
+        ensures valid { result ≡ Ok true → IsValidHolding self.now }
     {
         let claims = claims_in(alloc, self.appointed.as_slice())?;
-        Ok(are_kept(self.shares, claims.as_slice()))
+        Ok(are_valid(self.shares, claims.as_slice()))
     }
 }
 
@@ -198,8 +198,8 @@ impl Claims {
     /// and its shares have places. It takes no memory.
     pub fn is_valid(&self) -> bool
         ensures value { result ≡ is_valid_holding self.now }
-        ensures kept { result ≡ true → IsValidHolding self.now }
+        ensures valid { result ≡ true → IsValidHolding self.now }
     {
-        are_kept(self.shares(), self.appointed())
+        are_valid(self.shares(), self.appointed())
     }
 }

@@ -27,7 +27,7 @@ fn last_own_over<'a>(
 }
 
 /// The last of the member's appointments that is over the place.
-#[tactic(auto, using(crate::proofs::ProxyListLemmas::last_kept))]
+#[tactic(auto, using(crate::proofs::ProxyListLemmas::last_filtered))]
 fn last_over<'a>(
     appointments: &'a [Appointment],
     member: Party,

@@ -33,7 +33,7 @@ pub fn allows(instructed: Option<Way>, way: Way) -> bool
     ensures { result ≡ allows instructed way }
 {
     match instructed {
-        Some(told) => told == way,
+        Some(wanted) => wanted == way,
         None => true,
     }
 }

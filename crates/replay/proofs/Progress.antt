@@ -65,11 +65,11 @@ appends-chained (Some x) None c xs ys p q = absurd p
 appends-chained (Some x) (Some y) None xs ys p q = absurd q
 appends-chained (Some x) (Some y) (Some z) xs ys p q = q ∙ ap (λ l. l ++ ys) p ∙ append_assoc x xs ys
 
-appends-kept : (a b c : Option (List ℕ)) (xs : List ℕ) → Appends a b xs → Keeps b c → Appends a c xs
-appends-kept None b c xs p q = tt
-appends-kept (Some x) None c xs p q = absurd p
-appends-kept (Some x) (Some y) None xs p q = absurd q
-appends-kept (Some x) (Some y) (Some z) xs p q = q ∙ p
+appends-preserved : (a b c : Option (List ℕ)) (xs : List ℕ) → Appends a b xs → Keeps b c → Appends a c xs
+appends-preserved None b c xs p q = tt
+appends-preserved (Some x) None c xs p q = absurd p
+appends-preserved (Some x) (Some y) None xs p q = absurd q
+appends-preserved (Some x) (Some y) (Some z) xs p q = q ∙ p
 
 -- the bytes that were given as lines, and those that were lost, are all that came
 came : (input given bytes lost left : List ℕ) (taken : ℕ) → input ≡ given ++ bytes → bytes ≡ lost ++ left → taken + length left ≡ 0 + length input → take taken input ≡ given ++ lost
@@ -118,9 +118,9 @@ module _ (may_fail : Failure → Type 0) (start : OfficeLists) where
             (join (transcript start done d.failed) (line_answered a.failed office first).text d.written a.written);
       }
 
-  done_kept : (done : List (List ℕ)) (office : OfficeLists) (old mid new : Option (List ℕ)) → Done done office (Appends old mid) → Keeps mid new → Done done office (Appends old new)
-  done_kept done office old mid new d kept =
-      record { failed = d.failed; each = d.each; causes = d.causes; office_is = d.office_is; written = appends-kept old mid new _ d.written kept }
+  done_preserved : (done : List (List ℕ)) (office : OfficeLists) (old mid new : Option (List ℕ)) → Done done office (Appends old mid) → Keeps mid new → Done done office (Appends old new)
+  done_preserved done office old mid new d preserved =
+      record { failed = d.failed; each = d.each; causes = d.causes; office_is = d.office_is; written = appends-preserved old mid new _ d.written preserved }
 
   -- so they are answered on what stores the office after them
   answered_on : (done lines : List (List ℕ)) (office : OfficeLists) (IsLeft : OfficeLists → Type 0) (IsWritten : List ℕ → Type 0) → Done done office IsWritten → lines ≡ done → IsLeft office
@@ -175,20 +175,20 @@ module _ (may_fail : Failure → Type 0) (start : OfficeLists) where
     -- all lines are answered
     pub progress_all : (input : List ℕ) (unread : Option (List ℕ)) (office after : OfficeLists) (old mid new : Option (List ℕ)) → Progress input unread office old mid
         → IsAtEnd unread → Keeps mid new → after ≡ office → IsLeft after → AreAnsweredOn may_fail start IsLeft (lines_of input) (Appends old new)
-    progress_all input unread office after old mid new p end kept same left =
+    progress_all input unread office after old mid new p end preserved same left =
         let all : lines_of input ≡ p.done = p.lines ∙ ap (λ r. p.done ++ lines_of r) (nothing_left unread p.rest p.unread_is end) ∙ append-nil p.done in
-        answered_on p.done (lines_of input) office IsLeft (Appends old new) (done_kept p.done office old mid new p.answered kept) all (subst IsLeft same left)
+        answered_on p.done (lines_of input) office IsLeft (Appends old new) (done_preserved p.done office old mid new p.answered preserved) all (subst IsLeft same left)
 
     stopped_reading : (input rest : List ℕ) (left : Option (List ℕ)) (taken : ℕ) (office after : OfficeLists) (old mid new : Option (List ℕ)) (p : Progress input (Some rest) office old mid) → p.rest ≡ rest
         → Keeps mid new → StaysInLine (Some rest) left → SameWhole 0 (Some input) taken left → after ≡ office → IsLeft after → IsAnsweredSoFarOn may_fail start IsLeft input taken old new
-    stopped_reading input rest None taken office after old mid new p same kept lost whole is stands = absurd lost
-    stopped_reading input rest (Some left) taken office after old mid new p same kept lost whole is stands =
+    stopped_reading input rest None taken office after old mid new p same preserved lost whole is stands = absurd lost
+    stopped_reading input rest (Some left) taken office after old mid new p same preserved lost whole is stands =
         let all : take taken input ≡ p.given ++ lost.0 = came input p.given rest lost.0 left taken (p.input_is ∙ ap (λ r. p.given ++ r) same) lost.1 whole in
         let done : take (length p.done) (lines_of input) ≡ p.done = ap (λ ls. take (length p.done) ls) p.lines ∙ take-append_seam p.done (lines_of p.rest) in
         record {
           count = length p.done;
           each_that_came = omega (arith, ap feeds_in all, feeds_in-append p.given lost.0, feeds_in-none lost.0 lost.2, p.fed);
-          answered = answered_on p.done _ office IsLeft (Appends old new) (done_kept p.done office old mid new p.answered kept) done (subst IsLeft is stands);
+          answered = answered_on p.done _ office IsLeft (Appends old new) (done_preserved p.done office old mid new p.answered preserved) done (subst IsLeft is stands);
         }
 
     stopped_writing : (input bytes : List ℕ) (office after : OfficeLists) (old mid new : Option (List ℕ)) (p : Progress input (Some bytes) office old mid) → p.rest ≡ bytes

@@ -1,8 +1,9 @@
 -- Members, each once.
-use Rattle.std.proofs.Common.{◌≡◌, ℕ, ◌+◌, ◌<◌, Bool, true, false, not, ◌||◌, cond, List, [], ◌∷◌, ◌++◌, length, get_or, filter, map, take, refl, sym, ap, ◌∙◌, true≢false}
+use Rattle.std.proofs.Common.{◌≡◌, ℕ, ◌+◌, ◌<◌, nat_eq, Bool, true, false, not, ◌||◌, cond, List, [], ◌∷◌, ◌++◌, length, get_or, filter, map, take, refl, sym, ap, ◌∙◌, true≢false, arith}
 use Rattle.std.specs.Cmp.Lexicographic.{texts_ties}
 use Rattle.std.specs.List.{list_any}
 use Rattle.std.specs.Ordering.{is_eq}
+use Rattle.std.proofs.lemmas.Bool.Decides.{nat_tests}
 use Rattle.std.proofs.lemmas.List.{append-nil, map-append, take_more}
 use Rattle.std.proofs.lemmas.List.Folds.{list_any-append}
 use Rattle.std.proofs.lemmas.List.Elements.{filter-append}
@@ -19,6 +20,7 @@ use Rattle.party_views.specs.declared.own_rows.MemberRows.{MemberRows}
 use Rattle.party_views.proofs.OwnLemmas.{filter-map, filter-swap}
 use Rattle.proxy_rules.proofs.ProxyNameLemmas.{same_name-sym}
 use Rattle.proxy_rules.specs.Holdings.{is_given_by}
+use Rattle.row_source.specs.LookUps.{givers_among}
 
 -- the names are not the same
 abbrev differs : List ℕ → List ℕ → Bool
@@ -42,9 +44,9 @@ each_once-more (first ∷ names) name =
           (elim stands as (λ c. first ∷ filter (differs first) (cond c once (once ++ name ∷ [])) ≡ first ∷ filter (differs first) once) [ true ↦ refl | false ↦ ap (λ l. first ∷ l) out ])
       | false ↦ λ other.
           let stays : differs first name ≡ true = ap not (same_name-sym name first ∙ other) in
-          let kept : filter (differs first) (once ++ name ∷ []) ≡ filter (differs first) once ++ name ∷ [] =
+          let preserved : filter (differs first) (once ++ name ∷ []) ≡ filter (differs first) once ++ name ∷ [] =
           filter-append (differs first) once (name ∷ []) ∙ ap (λ b. filter (differs first) once ++ cond b (name ∷ []) []) stays in
-          (elim stands as (λ c. first ∷ filter (differs first) (cond c once (once ++ name ∷ [])) ≡ cond c (first ∷ filter (differs first) once) (first ∷ (filter (differs first) once ++ name ∷ []))) [ true ↦ refl | false ↦ ap (λ l. first ∷ l) kept ])
+          (elim stands as (λ c. first ∷ filter (differs first) (cond c once (once ++ name ∷ [])) ≡ cond c (first ∷ filter (differs first) once) (first ∷ (filter (differs first) once ++ name ∷ []))) [ true ↦ refl | false ↦ ap (λ l. first ∷ l) preserved ])
     ]) refl
 
 -- one appointment more of them
@@ -82,20 +84,20 @@ givers-more given i a h is =
 -- a member who gave none before is one more
 pub giver-new : (given : List Appointment) (i : ℕ) (a : Appointment) (before after : List (List ℕ)) → i < length given → a ≡ get_or given i a
     → list_any (is_given_by a.member) (take i given) ≡ false → before ≡ givers (take i given) → after ≡ before ++ a.member ∷ [] → after ≡ givers (take (i + 1) given)
-giver-new given i a before after h is none kept put =
-    put ∙ ap (λ l. l ++ a.member ∷ []) kept ∙ ap (λ b. cond b (givers (take i given)) (givers (take i given) ++ a.member ∷ [])) (sym none) ∙ sym (givers-more given i a h is)
+giver-new given i a before after h is none preserved put =
+    put ∙ ap (λ l. l ++ a.member ∷ []) preserved ∙ ap (λ b. cond b (givers (take i given)) (givers (take i given) ++ a.member ∷ [])) (sym none) ∙ sym (givers-more given i a h is)
 
 -- one who gave one is none
 pub giver-again : (given : List Appointment) (i : ℕ) (a : Appointment) (before after : List (List ℕ)) → i < length given → a ≡ get_or given i a
     → list_any (is_given_by a.member) (take i given) ≡ true → before ≡ givers (take i given) → after ≡ before → after ≡ givers (take (i + 1) given)
-giver-again given i a before after h is some kept put =
-    put ∙ kept ∙ ap (λ b. cond b (givers (take i given)) (givers (take i given) ++ a.member ∷ [])) (sym some) ∙ sym (givers-more given i a h is)
+giver-again given i a before after h is some preserved put =
+    put ∙ preserved ∙ ap (λ b. cond b (givers (take i given)) (givers (take i given) ++ a.member ∷ [])) (sym some) ∙ sym (givers-more given i a h is)
 
 -- and was seen
 pub seen-more : (member : List ℕ) (given : List Appointment) (i : ℕ) (a : Appointment) (before after : Bool) → i < length given → a ≡ get_or given i a
     → after ≡ cond (is_eq (name_cmp a.member member)) true before → before ≡ list_any (is_given_by member) (take i given) → after ≡ list_any (is_given_by member) (take (i + 1) given)
-seen-more member given i a before after h is put kept =
-    put ∙ ap (λ b. cond b true before) (sym (texts_ties a.member member)) ∙ either (same_name a.member member) before ∙ ap (λ b. b || same_name a.member member) kept ∙ sym (gave-more member given i a h is)
+seen-more member given i a before after h is put preserved =
+    put ∙ ap (λ b. cond b true before) (sym (texts_ties a.member member)) ∙ either (same_name a.member member) before ∙ ap (λ b. b || same_name a.member member) preserved ∙ sym (gave-more member given i a h is)
   where
     either : (a b : Bool) → cond a true b ≡ (b || a)
     either true true = refl
@@ -110,6 +112,23 @@ is_new false h = refl
 pub is_old : (b : Bool) → not b ≡ false → b ≡ true
 is_old true h = refl
 is_old false h = sym h
+
+-- ---- those who gave one of some
+
+filter-none : {X : Type 0} (xs : List X) → filter (λ _. false) xs ≡ []
+filter-none [] = refl
+filter-none (x ∷ xs) = filter-none xs
+
+-- nobody gave one of none
+pub none_among : (given those : List Appointment) (is_empty : Bool) → is_empty ≡ true → is_empty ≡ nat_eq (length those) 0 → givers_among given those ≡ []
+none_among given [] is_empty so is = filter-none (givers given)
+none_among given (a ∷ those) is_empty so is =
+    let none : nat_eq (length (a ∷ those)) 0 ≡ false = grind (arith, nat_tests) in
+    absurd (true≢false (sym so ∙ is ∙ none))
+
+-- those in a set of who gave one gave one
+pub in_set : (members : List (List ℕ)) (in_it gave : List ℕ → Bool) → ((member : List ℕ) → in_it member ≡ gave member) → filter in_it members ≡ filter gave members
+in_set members in_it gave same = let alike : in_it ≡ gave = λ i. λ member. same member i in ap (λ test. filter test members) alike
 
 -- ---- those of one member
 

@@ -1,5 +1,6 @@
 -- What a meeting that is found holds, list by list; where none is found, nothing.
 use Rattle.std.specs.Prelude.{List, [], filter, map, Option, Some, None}
+use Rattle.std.specs.List.{list_any}
 use Rattle.std.specs.Option.{option_map_or}
 use Rattle.desk_words.specs.ViewTypes.{Number, Party}
 use Rattle.desk_words.specs.declared.office.MeetingLists.{MeetingLists}
@@ -13,8 +14,8 @@ use Rattle.desk_words.specs.declared.records.RegisterRow.{RegisterRow}
 use Rattle.proxy_rules.specs.Holdings.{claims_of, holding_of, is_given_by}
 use Rattle.proxy_rules.specs.Parties.{authorises, is_authority_of, is_cast_by, is_demanded_by, names}
 use Rattle.proxy_rules.specs.Shares.{row_of}
-use Rattle.party_views.specs.RowsRead.{cast_on}
-use Rattle.party_views.specs.PartyRows.{givers, no_rows_of, presences_of}
+use Rattle.party_views.specs.RowsRead.{cast_on, is_instructing}
+use Rattle.party_views.specs.PartyRows.{givers, no_own_rows, presences_of}
 use Rattle.party_views.specs.declared.own_rows.AuthorityRows.{AuthorityRows}
 use Rattle.party_views.specs.declared.own_rows.MemberRows.{MemberRows}
 use Rattle.party_views.specs.declared.own_rows.OwnRows.{OwnRows}
@@ -93,11 +94,28 @@ member_at found member = record {
       claims_of (holding_of (register_in found) (appointments_in found) (endings_in found) member);
 }
 
--- appointments, and the members who gave them, each once
-abbrev pub with_members : Option MeetingLists → List Appointment → ReceivedRows
-with_members found received = record {
-  received = received;
-  members = map (member_at found) (givers received);
+-- of the members who gave these appointments, each once, those who gave one of those
+abbrev pub givers_among : List Appointment → List Appointment → List Party
+givers_among given those = filter (λ member. list_any (is_given_by member) those) (givers given)
+
+-- of these appointments those that instruct on a resolution, or all where none is named (section
+-- 324A)
+abbrev pub chosen : Option Number → List Appointment → List Appointment
+chosen None given = given
+chosen (Some resolution) given = filter (is_instructing resolution) given
+
+-- the members who gave those, in the order in which they first gave one of all
+abbrev pub chosen_givers : Option Number → List Appointment → List Party
+chosen_givers None given = givers given
+chosen_givers (Some resolution) given =
+    givers_among given (filter (is_instructing resolution) given)
+
+-- those of these appointments that instruct on a resolution, or all where none is named; and the
+-- members who gave them
+abbrev pub with_givers : Option MeetingLists → Option Number → List Appointment → ReceivedRows
+with_givers found on given = record {
+  received = chosen on given;
+  members = map (member_at found) (chosen_givers on given);
 }
 
 -- an authority, with its corporation's row in the register
@@ -109,7 +127,7 @@ authority_at found a = record { authority = a; row = row_of (register_in found) 
 abbrev pub acting_for : Option MeetingLists → Party → ActingRows
 acting_for found party = record {
   received = naming_in found party;
-  members = (with_members found (naming_in found party)).members;
+  members = (with_givers found None (naming_in found party)).members;
   authorised = map (authority_at found) (trusting_in found party);
 }
 
@@ -123,7 +141,7 @@ own_marks found party = record {
 
 -- what a vote as a member reads: the party's own row, and its votes on that resolution
 abbrev pub for_member : Option MeetingLists → Party → Number → OwnRows
-for_member found party resolution = record (no_rows_of party) {
+for_member found party resolution = record (no_own_rows party) {
   row = row_of (register_in found) party;
   casts = cast_on resolution (casts_by found party);
 }

@@ -11,5 +11,5 @@ pub record IsTrueLookUp {S X E : Type 0} (trusted : S → Type 0)
     (Holds : Option MeetingLists → X → Type 0) : Type 0 where
   pub holds : trusted new → (found : Option MeetingLists) → shows old found
       → MatchResult result (Holds found) may_fail
-  pub kept : OnOk result (keeps old new)
+  pub preserved : OnOk result (keeps old new)
   pub left : leaves old new

@@ -5,5 +5,5 @@ mod members;
 mod needed_rows;
 mod source;
 
-pub use needed_rows::{no_rows_of, rows_for};
+pub use needed_rows::{no_own_rows, read_own_rows};
 pub use source::RowSource;

@@ -1,14 +1,19 @@
 //! The members who named a party, and the corporations that authorised it.
-ghost use Rattle.std.specs.Prelude.{◌≡◌, IfOk, map};
+ghost use Rattle.std.specs.Prelude.{◌≡◌, ℕ, List, IfOk, filter, map};
+ghost use Rattle.std.specs.BTreeSet.{contains};
+ghost use Rattle.vocabulary.specs.Names.{name_cmp};
+ghost use Rattle.std.specs.List.{list_any};
+ghost use Rattle.proxy_rules.specs.Holdings.{is_given_by};
+ghost use Rattle.party_views.specs.RowsRead.{is_instructing};
 ghost use Rattle.party_views.specs.PartyRows.{givers};
 ghost use Rattle.row_source.specs.LookUps.{authority_at, member_at, received_from, trusting_from};
-ghost use Rattle.row_source.specs.LookUps.{with_members};
+ghost use Rattle.row_source.specs.LookUps.{chosen, chosen_givers, givers_among, with_givers};
 ghost use Rattle.row_source.specs.TrueLookUps.{IsTrueLookUp};
 
 use crate::source::RowSource;
 use desk_words::{Appointment, Authority, Listing, Party};
 use party_views::{AuthorityRows, MemberRows};
-use proxy_rules::Claims;
+use proxy_rules::{Claims, instructed_on};
 use std::alloc::{AllocError, Global};
 use std::collections::BTreeSet;
 
@@ -66,19 +71,104 @@ fn received_from<R: RowSource>(
     }
 }
 
-/// The appointments that name a party (section 324), or those that a giver gave, where one is
+/// Those of the appointments that instruct on a resolution (section 324A).
+fn instructing_among(
+    alloc: Global,
+    received: &[Appointment],
+    resolution: u64,
+) -> Result<Listing<Appointment>, AllocError>
+    ensures { IfOk result (λ found. found ≡ filter (is_instructing resolution) received.now) }
+{
+    let found: Vec<Appointment> = received
+        .iter()
+        .copied()
+        .filter(|a| instructed_on(a.instructions.as_slice(), resolution).is_some())
+        .collect(alloc)?;
+    Ok(Listing::from_vec(found))
+}
+
+/// The members who gave one of these appointments.
+fn givers_of(alloc: Global, given: &[Appointment]) -> Result<BTreeSet<Party>, AllocError>
+    ensures { IfOk result
+        (λ givers. (member : List ℕ) → contains name_cmp givers member
+        ≡ list_any (is_given_by member) given.now) }
+{
+    let mut givers = BTreeSet::new(alloc);
+    for appointment in given {
+        let _ = givers.insert(appointment.member)?;
+    }
+    Ok(givers)
+}
+
+/// Those of the members who are in the set.
+fn among(members: Vec<Party>, set: &BTreeSet<Party>) -> Vec<Party>
+    ensures { result.items ≡ filter (contains name_cmp set.now) members.items }
+{
+    let mut found = members;
+    found.retain(|member| set.contains(member));
+    found
+}
+
+/// Of the members who gave these appointments, each once, those who gave one of those.
+fn givers_among(
+    alloc: Global,
+    given: &[Appointment],
+    those: &[Appointment],
+) -> Result<Vec<Party>, AllocError>
+    ensures { IfOk result (λ members. members.items ≡ givers_among given.now those.now) }
+{
+    if those.is_empty() {
+        return Ok(Vec::new(alloc));
+    }
+    let all = givers(alloc, given)?;
+    Ok(among(all, &givers_of(alloc, those)?))
+}
+
+/// Appointments, and the members who gave them.
+#[derive(Drop)]
+struct Chosen {
+    received: Listing<Appointment>,
+    givers: Vec<Party>,
+}
+
+/// Those of the appointments that instruct on a resolution (section 324A), or all where none is
 /// named; and the members who gave them.
+fn choose(alloc: Global, given: Listing<Appointment>, on: Option<u64>) -> Result<Chosen, AllocError>
+    ensures received { IfOk result (λ c. c.received ≡ chosen on given) }
+    ensures givers { IfOk result (λ c. c.givers.items ≡ chosen_givers on given) }
+{
+    match on {
+        None => {
+            let givers = givers(alloc, given.as_slice())?;
+            Ok(Chosen {
+                received: given,
+                givers,
+            })
+        }
+        Some(resolution) => {
+            let received = instructing_among(alloc, given.as_slice(), resolution)?;
+            let givers = givers_among(alloc, given.as_slice(), received.as_slice())?;
+            Ok(Chosen { received, givers })
+        }
+    }
+}
+
+/// The appointments that name a party (section 324), or those that a giver gave, where one is
+/// named; of them those that instruct on a resolution, where one is named; and the members who gave
+/// them. Of a member who gave none of them nothing else is looked up.
 pub(crate) fn named<R: RowSource>(
     source: &mut R,
     alloc: Global,
     giver: Option<Party>,
     party: Party,
+    on: Option<u64>,
 ) -> Result<ReceivedRows, R::Error>
     ensures { IsTrueLookUp R.trusted R.shows R.keeps R.leaves R.may_fail source.old source.new result
-        (λ found named. named ≡ with_members found (received_from found giver party)) }
+        (λ found named. named ≡ with_givers found on (received_from found giver party)) }
 {
-    let received = received_from(source, giver, party)?;
-    let givers = givers(alloc, received.as_slice())?;
+    let given = received_from(source, giver, party)?;
+    let chosen = choose(alloc, given, on)?;
+    let Chosen { received, givers } = chosen;
     let mut members = Listing::from_vec(Vec::with_capacity(alloc, givers.len())?);
     for member in &givers {
         members.push(member_rows(source, *member)?)?;

@@ -1,11 +1,11 @@
 //! Those of a party's rows in a meeting that the answer to its request reads.
 ghost use Rattle.std.specs.Prelude.{◌≡◌, map};
 ghost use Rattle.party_views.specs.RowsRead.{cast_on};
-ghost use Rattle.party_views.specs.RowsRead.{rows_part};
-ghost use Rattle.party_views.specs.PartyRows.{no_rows_of, rows_in};
+ghost use Rattle.party_views.specs.RowsRead.{own_rows_part};
+ghost use Rattle.party_views.specs.PartyRows.{no_own_rows, own_rows_in};
 ghost use Rattle.party_views.specs.declared.reads.Reads.TheVariants as reads;
 ghost use Rattle.row_source.specs.LookUps.{acting_for, authority_at, casts_by, for_member, naming_by_in, own_marks, trusting_for_in};
-ghost use Rattle.row_source.specs.LookUps.{with_members};
+ghost use Rattle.row_source.specs.LookUps.{with_givers};
 ghost use Rattle.row_source.specs.TrueLookUps.{IsTrueLookUp};
 
 use crate::members::{authorised, named};
@@ -15,8 +15,8 @@ use party_views::{AuthorityRows, MemberRows, OwnRows, Reads, holds_as_individual
 use std::alloc::Global;
 
 /// The rows of a party where there is no meeting.
-pub fn no_rows_of(alloc: Global, party: Party) -> OwnRows
-    ensures { result ≡ no_rows_of party }
+pub fn no_own_rows(alloc: Global, party: Party) -> OwnRows
+    ensures { result ≡ no_own_rows party }
 {
     OwnRows {
         party,
@@ -59,7 +59,7 @@ fn acting_for<R: RowSource>(
     ensures { IsTrueLookUp R.trusted R.shows R.keeps R.leaves R.may_fail source.old source.new result
         (λ found acting. acting ≡ acting_for found party) }
 {
-    let named = named(source, alloc, None, party)?;
+    let named = named(source, alloc, None, party, None)?;
     let authorised = authorised(source, alloc, None, party)?;
     Ok(ActingRows {
         received: named.received,
@@ -90,7 +90,7 @@ fn standing_of<R: RowSource>(
     party: Party,
 ) -> Result<OwnRows, R::Error>
     ensures { IsTrueLookUp R.trusted R.shows R.keeps R.leaves R.may_fail source.old source.new result
-        (λ found rows. rows ≡ rows_part reads.Standing (rows_in found party)) }
+        (λ found rows. rows ≡ own_rows_part reads.Standing (own_rows_in found party)) }
 {
     let OwnMarks {
         row,
@@ -102,7 +102,7 @@ fn standing_of<R: RowSource>(
             row,
             presences,
             demands,
-            ..no_rows_of(alloc, party)
+            ..no_own_rows(alloc, party)
         });
     }
     let ActingRows {
@@ -117,14 +117,14 @@ fn standing_of<R: RowSource>(
         authorised,
         presences,
         demands,
-        ..no_rows_of(alloc, party)
+        ..no_own_rows(alloc, party)
     })
 }
 
 /// All rows of a party.
-fn rows_of<R: RowSource>(source: &mut R, alloc: Global, party: Party) -> Result<OwnRows, R::Error>
+fn read_all<R: RowSource>(source: &mut R, alloc: Global, party: Party) -> Result<OwnRows, R::Error>
     ensures { IsTrueLookUp R.trusted R.shows R.keeps R.leaves R.may_fail source.old source.new result
-        (λ found rows. rows ≡ rows_in found party) }
+        (λ found rows. rows ≡ own_rows_in found party) }
 {
     let given = source.given_by(party)?;
     let ended = source.ended_by(party)?;
@@ -163,14 +163,14 @@ fn given_alone<R: RowSource>(
     party: Party,
 ) -> Result<OwnRows, R::Error>
     ensures { IsTrueLookUp R.trusted R.shows R.keeps R.leaves R.may_fail source.old source.new result
-        (λ found rows. rows ≡ rows_part reads.Given (rows_in found party)) }
+        (λ found rows. rows ≡ own_rows_part reads.Given (own_rows_in found party)) }
 {
     let given = source.given_by(party)?;
     let ended = source.ended_by(party)?;
     Ok(OwnRows {
         given,
         ended,
-        ..no_rows_of(alloc, party)
+        ..no_own_rows(alloc, party)
     })
 }
 
@@ -181,12 +181,12 @@ fn count_alone<R: RowSource>(
     party: Party,
 ) -> Result<OwnRows, R::Error>
     ensures { IsTrueLookUp R.trusted R.shows R.keeps R.leaves R.may_fail source.old source.new result
-        (λ found rows. rows ≡ rows_part reads.GivenCount (rows_in found party)) }
+        (λ found rows. rows ≡ own_rows_part reads.GivenCount (own_rows_in found party)) }
 {
     let given_count = source.count_given_by(party)?;
     Ok(OwnRows {
         given_count,
-        ..no_rows_of(alloc, party)
+        ..no_own_rows(alloc, party)
     })
 }
 
@@ -197,12 +197,12 @@ fn persons_alone<R: RowSource>(
     party: Party,
 ) -> Result<OwnRows, R::Error>
     ensures { IsTrueLookUp R.trusted R.shows R.keeps R.leaves R.may_fail source.old source.new result
-        (λ found rows. rows ≡ rows_part reads.Persons (rows_in found party)) }
+        (λ found rows. rows ≡ own_rows_part reads.Persons (own_rows_in found party)) }
 {
     let persons = source.persons_of(party)?;
     Ok(OwnRows {
         persons,
-        ..no_rows_of(alloc, party)
+        ..no_own_rows(alloc, party)
     })
 }
 
@@ -213,12 +213,12 @@ fn presence_alone<R: RowSource>(
     party: Party,
 ) -> Result<OwnRows, R::Error>
     ensures { IsTrueLookUp R.trusted R.shows R.keeps R.leaves R.may_fail source.old source.new result
-        (λ found rows. rows ≡ rows_part reads.Presence (rows_in found party)) }
+        (λ found rows. rows ≡ own_rows_part reads.Presence (own_rows_in found party)) }
 {
     let presences = source.presences_of(party)?;
     Ok(OwnRows {
         presences,
-        ..no_rows_of(alloc, party)
+        ..no_own_rows(alloc, party)
     })
 }
 
@@ -229,10 +229,10 @@ fn none_of_them<R: RowSource>(
     party: Party,
 ) -> Result<OwnRows, R::Error>
     ensures { IsTrueLookUp R.trusted R.shows R.keeps R.leaves R.may_fail source.old source.new result
-        (λ found rows. rows ≡ rows_part reads.Nothing (rows_in found party)) }
+        (λ found rows. rows ≡ own_rows_part reads.Nothing (own_rows_in found party)) }
 {
     source.presences_of(party)?;
-    Ok(no_rows_of(alloc, party))
+    Ok(no_own_rows(alloc, party))
 }
 
 /// What votes as instructed on a resolution read.
@@ -243,15 +243,15 @@ fn for_instructed<R: RowSource>(
     resolution: u64,
 ) -> Result<OwnRows, R::Error>
     ensures { IsTrueLookUp R.trusted R.shows R.keeps R.leaves R.may_fail source.old source.new result
-        (λ found rows. rows ≡ rows_part (reads.AsInstructed resolution) (rows_in found party)) }
+        (λ found rows. rows ≡ own_rows_part (reads.AsInstructed resolution) (own_rows_in found party)) }
 {
-    let named = named(source, alloc, None, party)?;
+    let named = named(source, alloc, None, party, Some(resolution))?;
     let casts = source.casts_on(party, resolution)?;
     Ok(OwnRows {
         received: named.received,
         members: named.members,
         casts,
-        ..no_rows_of(alloc, party)
+        ..no_own_rows(alloc, party)
     })
 }
 
@@ -270,7 +270,7 @@ fn for_member<R: RowSource>(
     Ok(OwnRows {
         row,
         casts,
-        ..no_rows_of(alloc, party)
+        ..no_own_rows(alloc, party)
     })
 }
 
@@ -283,7 +283,7 @@ fn for_rep<R: RowSource>(
     new: &NewCast,
 ) -> Result<OwnRows, R::Error>
     ensures { IsTrueLookUp R.trusted R.shows R.keeps R.leaves R.may_fail source.old source.new result
-        (λ found rows. rows ≡ record (no_rows_of party) {
+        (λ found rows. rows ≡ record (no_own_rows party) {
           authorised = map (authority_at found) (trusting_for_in found new.now.member party);
           casts = cast_on new.now.resolution (casts_by found party);
         }) }
@@ -293,7 +293,7 @@ fn for_rep<R: RowSource>(
     Ok(OwnRows {
         authorised,
         casts,
-        ..no_rows_of(alloc, party)
+        ..no_own_rows(alloc, party)
     })
 }
 
@@ -306,19 +306,19 @@ fn for_proxy<R: RowSource>(
     new: &NewCast,
 ) -> Result<OwnRows, R::Error>
     ensures { IsTrueLookUp R.trusted R.shows R.keeps R.leaves R.may_fail source.old source.new result
-        (λ found rows. rows ≡ record (no_rows_of party) {
+        (λ found rows. rows ≡ record (no_own_rows party) {
           received = naming_by_in found new.now.member party;
-          members = (with_members found (naming_by_in found new.now.member party)).members;
+          members = (with_givers found None (naming_by_in found new.now.member party)).members;
           casts = cast_on new.now.resolution (casts_by found party);
         }) }
 {
-    let named = named(source, alloc, Some(new.member), party)?;
+    let named = named(source, alloc, Some(new.member), party, None)?;
     let casts = source.casts_on(party, new.resolution)?;
     Ok(OwnRows {
         received: named.received,
         members: named.members,
         casts,
-        ..no_rows_of(alloc, party)
+        ..no_own_rows(alloc, party)
     })
 }
 
@@ -331,7 +331,7 @@ fn for_vote<R: RowSource>(
     new: &NewCast,
 ) -> Result<OwnRows, R::Error>
     ensures { IsTrueLookUp R.trusted R.shows R.keeps R.leaves R.may_fail source.old source.new result
-        (λ found rows. rows ≡ rows_part (reads.Vote new.now) (rows_in found party)) }
+        (λ found rows. rows ≡ own_rows_part (reads.Vote new.now) (own_rows_in found party)) }
 {
     match new.capacity {
         Capacity::Member => for_member(source, alloc, party, new.resolution),
@@ -343,18 +343,18 @@ fn for_vote<R: RowSource>(
 /// Those of a party's rows in a meeting that are read, and nothing in place of the others, which
 /// are not looked up; where there is no meeting, none. The error is that of a look-up, or want of
 /// memory.
-pub fn rows_for<R: RowSource>(
+pub fn read_own_rows<R: RowSource>(
     source: &mut R,
     alloc: Global,
     party: Party,
     what: &Reads,
 ) -> Result<OwnRows, R::Error>
     ensures { IsTrueLookUp R.trusted R.shows R.keeps R.leaves R.may_fail source.old source.new result
-        (λ found rows. rows ≡ rows_part what.now (rows_in found party)) }
+        (λ found rows. rows ≡ own_rows_part what.now (own_rows_in found party)) }
 {
     match what {
         Reads::Nothing => none_of_them(source, alloc, party),
-        Reads::Everything => rows_of(source, alloc, party),
+        Reads::Everything => read_all(source, alloc, party),
         Reads::Given => given_alone(source, alloc, party),
         Reads::GivenCount => count_alone(source, alloc, party),
         Reads::Persons => persons_alone(source, alloc, party),

@@ -55,9 +55,9 @@ all_changed_found q p f (y ∷ ys) x h =
     ]
 
 -- where some value passes, one still does after a change that keeps what passes
-pub any_kept : {X : Type 0} (q p : X → Bool) (f : X → X) (xs : List X) → ((x : X) → q x ≡ true → q (f x) ≡ true) → list_any q xs ≡ true → list_any q (change_first p f xs) ≡ true
-any_kept q p f [] k = λ h. h
-any_kept q p f (x ∷ xs) k =
+pub any_preserved : {X : Type 0} (q p : X → Bool) (f : X → X) (xs : List X) → ((x : X) → q x ≡ true → q (f x) ≡ true) → list_any q xs ≡ true → list_any q (change_first p f xs) ≡ true
+any_preserved q p f [] k = λ h. h
+any_preserved q p f (x ∷ xs) k =
     elim (p x) as (λ b. (q x || list_any q xs) ≡ true → list_any q (cond b (f x ∷ xs) (x ∷ change_first p f xs)) ≡ true) [
       | true ↦ (elim (q x) as (λ c. q x ≡ c → (c || list_any q xs) ≡ true → (q (f x) || list_any q xs) ≡ true) [
         | true ↦ λ e _. ap (λ c. c || list_any q xs) (k x e)
@@ -65,7 +65,7 @@ any_kept q p f (x ∷ xs) k =
       ]) refl
       | false ↦ (elim (q x) as (λ c. (c || list_any q xs) ≡ true → (c || list_any q (change_first p f xs)) ≡ true) [
         | true ↦ λ _. refl
-        | false ↦ λ h. any_kept q p f xs k h
+        | false ↦ λ h. any_preserved q p f xs k h
       ])
     ]
 

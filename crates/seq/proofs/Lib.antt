@@ -4,7 +4,7 @@ pub mod ChangeFirst
 pub mod Differing
 pub mod Finding
 pub mod Inserting
-pub mod Kept
+pub mod Filtered
 pub mod Numbers
 pub mod Once
 pub mod SortingLemmas

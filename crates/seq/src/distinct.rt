@@ -11,7 +11,7 @@ pub fn in_order_once<T: Ord + Drop>(mut values: Vec<T>) -> Vec<T>
 
     // Each is from the list, and of each value of the list one that is equal to it stays.
     ensures drawn { All (Contains values.items) result.items }
-    ensures kept { (x : T) →
+    ensures same_members { (x : T) →
         is_member (eq_by_cmp T.cmp) result.items x ≡ is_member (eq_by_cmp T.cmp) values.items x }
     ensures count { vec_len result ≡ distinct_count (eq_by_cmp T.cmp) values.items }
 

@@ -15,7 +15,7 @@ use Rattle.std.specs.Cmp.{first_so, second_so}
 use Rattle.std.proofs.lemmas.Map.Views.{All-values-insert_entry, any-filter_same}
 use Rattle.std.proofs.lemmas.List.Elements.{recursion_from_All}
 use Rattle.seq.proofs.Numbers.{is_lt-nat_cmp}
-use Rattle.seq.proofs.Kept.{any-filter}
+use Rattle.seq.proofs.Filtered.{any-filter}
 use Rattle.desk_words.specs.Places.{Places, holds}
 use Rattle.vocabulary.specs.Places.{is_range}
 use Rattle.share_blocks.specs.Cuts.{ranges_between, rise_from}

@@ -45,7 +45,7 @@ impl Tag {
     /// Its number, from 1 to `MOST_TAGS`.
     pub fn number(self) -> u64
         ensures value { result ≡ self }
-        ensures kept { IsTrue (is_tag self) }
+        ensures valid { IsTrue (is_tag self) }
     {
         u64::from(self.number)
     }

@@ -64,12 +64,12 @@ keys_refused rows none =
     let moved = IsPermutation-sort_by caller_before rows in
     elim (cases_Bool (is_key_list sorted)) [
       | inl is ↦
-          let kept = keep_keys-permutation sorted rows (IsPermutation-sym rows sorted moved) (first_so (keep_keys sorted) (ascends_by caller_before sorted) is) in
+          let preserved = keep_keys-permutation sorted rows (IsPermutation-sym rows sorted moved) (first_so (keep_keys sorted) (ascends_by caller_before sorted) is) in
           let up = second_so (keep_keys sorted) (ascends_by caller_before sorted) is in
           let total = options_total nat_list_cmp_total in
           let callers : differ_by same_caller rows ≡ true =
           sym (differ_by_key-IsPermutation total (λ (row : KeyRow). party_in row.caller) rows sorted moved) ∙ differs-from_ascends_by total (λ (row : KeyRow). party_in row.caller) sorted up in
-          absurd (true≢false (sym (both_true kept callers) ∙ none_so (are_keys rows) sorted none))
+          absurd (true≢false (sym (both_true preserved callers) ∙ none_so (are_keys rows) sorted none))
       | inr other ↦ other
     ]
 
@@ -94,11 +94,11 @@ register_refused rows some none =
     let no_register : is_register sorted ≡ false =
     elim (cases_Bool (is_register sorted)) [
       | inl is ↦
-          let kept = keep_limits-permutation sorted rows (IsPermutation-sym rows sorted moved) (first_so (keep_limits sorted) (ascends_by member_before sorted) is) in
+          let preserved = keep_limits-permutation sorted rows (IsPermutation-sym rows sorted moved) (first_so (keep_limits sorted) (ascends_by member_before sorted) is) in
           let up = second_so (keep_limits sorted) (ascends_by member_before sorted) is in
           let members : differ_by same_member rows ≡ true =
           sym (differ_by_key-IsPermutation nat_list_cmp_total (λ (row : RegisterRow). row.member) rows sorted moved) ∙ differs-from_ascends_by nat_list_cmp_total (λ (row : RegisterRow). row.member) sorted up in
-          absurd (true≢false (sym (both_true kept members) ∙ none_so (are_holdings rows) sorted none))
+          absurd (true≢false (sym (both_true preserved members) ∙ none_so (are_holdings rows) sorted none))
       | inr other ↦ other
     ] in
     ap (λ b. b || is_register sorted) (some_rows rows some) ∙ no_register
@@ -168,8 +168,8 @@ days_refused days many =
     ap (λ b. b && ascends_by day_before days) wrong
 
 pub days_made : (list days : List ℕ) → IsTrue (is_day_list list) → ascends_by day_before days ≡ true → ((day : ℕ) → Contains list day ↔ Contains days day) → list ≡ days
-days_made list days kept up same =
-    same_list-from_Contains nat_cmp_total (λ (day : ℕ). day) list days (second_so (nat_le (length list) 2000) (ascends_by day_before list) kept) up (λ z. (same z).0) (λ z. (same z).1)
+days_made list days preserved up same =
+    same_list-from_Contains nat_cmp_total (λ (day : ℕ). day) list days (second_so (nat_le (length list) 2000) (ascends_by day_before list) preserved) up (λ z. (same z).0) (λ z. (same z).1)
 
 -- ---- the lists of a meeting
 

@@ -39,7 +39,7 @@ use Rattle.sql_lemmas.proofs.Adding.{adds_numbered, means_more}
 use Rattle.sql_lemmas.proofs.Commits.{query_keeps}
 use Rattle.sql_lemmas.proofs.Deleting.{passes, picked}
 use Rattle.sql_lemmas.proofs.Seq.{is_its_id}
-use Rattle.sql_lemmas.proofs.Tests.{kept_integer}
+use Rattle.sql_lemmas.proofs.Tests.{preserved_integer}
 use Rattle.sql_lemmas.proofs.Updating.{changes_rows, new_row, sets}
 use Rattle.sql_lemmas.proofs.Listing.{shown_terms}
 use Rattle.sql_lemmas.proofs.Making.{MakesTable}
@@ -93,7 +93,7 @@ unfolding version_in number_in
 raise_sets cells x h =
     let one = bound (number_in (columns_of desk cells) 0) _ x h in
     let first = bound (guard (one.0 == 1)) _ x one.2 in
-    rw (kept_integer natural_of (column cells 0) one.0 one.1, cast_int (pos 2), first.1) refl
+    rw (preserved_integer natural_of (column cells 0) one.0 one.1, cast_int (pos 2), first.1) refl
 
 pub raises : (old new : State) (r : Result ℕ Error) → IsDesk old → IsTrue old.in_transaction → ExecutesInside 0 raise_text [] old new r → OnOk r (Sets desk (λ _. record { number = 2 }) old new)
 raises old new r was inside h =

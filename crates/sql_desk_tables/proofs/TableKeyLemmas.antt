@@ -25,7 +25,7 @@ use Rattle.sql_lemmas.proofs.Listing.{shown_terms}
 use Rattle.sql_lemmas.proofs.Reading.{AsksAs, sought, finds}
 use Rattle.sql_rows.specs.Meanings.{all_meanings}
 use Rattle.sql_rows.proofs.RowMeaningLemmas.{bound, option_ap}
-use Rattle.sql_lemmas.proofs.Tests.{keys_tell}
+use Rattle.sql_lemmas.proofs.Tests.{keys_decide}
 use Rattle.std.proofs.Math.Bool.{and-true}
 use Rattle.sql_lemmas.proofs.Frames.{wide_one}
 use Rattle.sqlite.specs.Schema.{Schema}
@@ -49,7 +49,7 @@ secret_is cells x h =
 
 chosen_so : (s secret : List ℕ) → key_of secret ≡ Some s → (cells : Row) (x : KeyRow) → keys.means (columns_of keys cells) ≡ Some x → passes with_secret (Text secret ∷ []) cells ≡ same_name x.secret s
 unfolding parsed_in
-chosen_so s secret is cells x h = and-true _ ∙ keys_tell (column cells 2) secret x.secret s (secret_is (columns_of keys cells) x h) is
+chosen_so s secret is cells x h = and-true _ ∙ keys_decide (column cells 2) secret x.secret s (secret_is (columns_of keys cells) x h) is
 
 pub finds_secret : {V : Type 0} (items : V → List Row) (s secret : List ℕ) → key_of secret ≡ Some s → (old new : State) (r : Result V Error) → IsDesk old → IfOk r (λ v. Shown find_text (Text secret ∷ []) old new (items v))
     → IfOk r (λ v. ((was : List KeyRow) → records_in keys old.now.trees ≡ Some was → all_meanings keys.means (items v) ≡ Some (filter (λ x. same_name x.secret s) was)) × IsUnchanged old new)

@@ -35,7 +35,7 @@ use Rattle.sql_rows.specs.declared.stored_records.MeetingRow.{MeetingRow}
 use Rattle.vocabulary.specs.OptionSteps.{◌>>=◌}
 use Rattle.sql_lemmas.proofs.Seq.{is_its_id}
 use Rattle.sql_rows.proofs.RowMeaningLemmas.{bound, option_ap}
-use Rattle.sql_lemmas.proofs.Tests.{names_tell, kept_spelled, kept_worded, kept_integer, kept_some_moment}
+use Rattle.sql_lemmas.proofs.Tests.{names_decide, preserved_spelled, preserved_worded, preserved_integer, preserved_some_moment}
 use Rattle.std.proofs.Math.Bool.{and-true}
 use Rattle.sql_lemmas.proofs.Updating.{new_row, changes_rows, sets}
 use Rattle.sql_lemmas.proofs.Values.{cast_int}
@@ -127,7 +127,7 @@ unfolding meeting_in
 whole_row cells x p = rw (p.id, p.company, p.kind, p.given, p.appointed, p.recorded, p.loaded, p.opened) refl
 
 -- the columns of a row that is written again, but for the last two
-record IsKeptRow (cells : Row) (x : MeetingRow) : Type 0 where
+record IsPreservedRow (cells : Row) (x : MeetingRow) : Type 0 where
   id : parsed_of meeting_of (cast Texts (column cells 2)) ≡ Some x.id
   company : parsed_word_of company_of (cast Texts (column cells 3)) ≡ Some x.company
   kind : parsed_word_of meeting_kind_of (cast Texts (column cells 4)) ≡ Some x.kind
@@ -137,31 +137,31 @@ record IsKeptRow (cells : Row) (x : MeetingRow) : Type 0 where
   loaded : (natural_value (cast Integer (column cells 8)) >>= flag_of) ≡ Some x.loaded
   opened : some_moment_of (cast Integer (column cells 9)) ≡ Some x.opened
 
-kept_row : (cells : Row) (x : MeetingRow) → meetings.means (columns_of meetings cells) ≡ Some x → IsKeptRow cells x
+preserved_row : (cells : Row) (x : MeetingRow) → meetings.means (columns_of meetings cells) ≡ Some x → IsPreservedRow cells x
 unfolding parsed_in parsed_word_in day_in moment_in flag_in number_in some_moment_in
-kept_row cells x h =
+preserved_row cells x h =
     let p = parts (columns_of meetings cells) x h in
     let flag_part = bound (natural_value (column cells 8)) flag_of x.loaded p.loaded in
     record {
-      id = kept_spelled meeting_of (column cells 2) x.id p.id;
-      company = kept_worded company_of (column cells 3) x.company p.company;
-      kind = kept_worded meeting_kind_of (column cells 4) x.kind p.kind;
-      given = kept_integer unix_day (column cells 5) x.given p.given;
-      appointed = kept_integer moment_of_number (column cells 6) x.appointed p.appointed;
-      recorded = kept_integer moment_of_number (column cells 7) x.record_moment p.recorded;
-      loaded = rw (kept_integer natural_of (column cells 8) flag_part.0 flag_part.1) flag_part.2;
-      opened = kept_some_moment (column cells 9) x.opened p.opened;
+      id = preserved_spelled meeting_of (column cells 2) x.id p.id;
+      company = preserved_worded company_of (column cells 3) x.company p.company;
+      kind = preserved_worded meeting_kind_of (column cells 4) x.kind p.kind;
+      given = preserved_integer unix_day (column cells 5) x.given p.given;
+      appointed = preserved_integer moment_of_number (column cells 6) x.appointed p.appointed;
+      recorded = preserved_integer moment_of_number (column cells 7) x.record_moment p.recorded;
+      loaded = rw (preserved_integer natural_of (column cells 8) flag_part.0 flag_part.1) flag_part.2;
+      opened = preserved_some_moment (column cells 9) x.opened p.opened;
     }
 
 chosen_so : (m meeting : List ℕ) (rest : Row) → meeting_of meeting ≡ Some m → (cells : Row) (x : MeetingRow) → meetings.means (columns_of meetings cells) ≡ Some x
     → passes named (Text meeting ∷ rest) cells ≡ same_name x.id m
 unfolding parsed_in
-chosen_so m meeting rest is cells x h = and-true _ ∙ names_tell (column cells 2) meeting x.id m (parts (columns_of meetings cells) x h).id is
+chosen_so m meeting rest is cells x h = and-true _ ∙ names_decide (column cells 2) meeting x.id m (parts (columns_of meetings cells) x h).id is
 
 keeps_number : (new : List Term) (params cells : Row) → IsTrue (is_int (rowid cells)) → cast Integer (rowid cells) ≡ rowid cells
 keeps_number new params cells keyed = subst (λ v. cast Integer v ≡ v) (sym (is_its_id cells keyed)) (cast_int (id_in (rowid cells)))
 
-again : (cells : Row) (x : MeetingRow) → IsKeptRow cells x → (loaded : Value) (opened : Value) (set : MeetingRow) → set ≡ record x { loaded = set.loaded; opened = set.opened }
+again : (cells : Row) (x : MeetingRow) → IsPreservedRow cells x → (loaded : Value) (opened : Value) (set : MeetingRow) → set ≡ record x { loaded = set.loaded; opened = set.opened }
     → (natural_value loaded >>= flag_of) ≡ Some set.loaded → some_moment_of opened ≡ Some set.opened
     → meeting_in (cast Texts (column cells 2) ∷ cast Texts (column cells 3) ∷ cast Texts (column cells 4) ∷ cast Integer (column cells 5) ∷ cast Integer (column cells 6) ∷ cast Integer (column cells 7) ∷ loaded ∷ opened ∷ []) ≡ Some set
 unfolding parsed_in parsed_word_in day_in moment_in flag_in number_in some_moment_in
@@ -185,7 +185,7 @@ load_sets : (m meeting : List ℕ) → meeting_of meeting ≡ Some m → (cells 
 load_sets m meeting is cells x h = go (passes named (Text meeting ∷ []) cells) (same_name x.id m) (chosen_so m meeting [] is cells x h)
   where
     go : (a b : Bool) → a ≡ b → meetings.means (columns_of meetings (if a then new_row (record table { tree = 5 }) load_terms (Text meeting ∷ []) cells else cells)) ≡ Some (if b then record x { loaded = true } else x)
-    go true true e = let k = kept_row cells x h in again cells x k (cast Integer (Int (pos 1))) (cast Integer (column cells 9)) (record x { loaded = true }) refl one_is_yes k.opened
+    go true true e = let k = preserved_row cells x h in again cells x k (cast Integer (Int (pos 1))) (cast Integer (column cells 9)) (record x { loaded = true }) refl one_is_yes k.opened
     go true false e = absurd cc
     go false true e = absurd cc
     go false false e = h
@@ -198,7 +198,7 @@ open_sets m meeting n moment is at cells x h = go (passes named (Text meeting �
     set_now = rw (cast_int n, at) refl
 
     go : (a b : Bool) → a ≡ b → meetings.means (columns_of meetings (if a then new_row (record table { tree = 5 }) open_terms (Text meeting ∷ Int n ∷ []) cells else cells)) ≡ Some (if b then record x { opened = Some moment } else x)
-    go true true e = let k = kept_row cells x h in again cells x k (cast Integer (column cells 8)) (cast Integer (Int n)) (record x { opened = Some moment }) refl k.loaded set_now
+    go true true e = let k = preserved_row cells x h in again cells x k (cast Integer (column cells 8)) (cast Integer (Int n)) (record x { opened = Some moment }) refl k.loaded set_now
     go true false e = absurd cc
     go false true e = absurd cc
     go false false e = h

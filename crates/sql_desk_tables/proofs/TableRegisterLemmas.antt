@@ -23,7 +23,7 @@ use Rattle.sql_schema.specs.Statements.{IsDesk, TakesOut, columns_of, layout_two
 use Rattle.sql_lemmas.proofs.Deleting.{chosen, passes}
 use Rattle.sql_lemmas.proofs.Emptying.{takes_out, leaves_rows}
 use Rattle.sql_rows.proofs.RowMeaningLemmas.{bound, option_ap}
-use Rattle.sql_lemmas.proofs.Tests.{names_tell}
+use Rattle.sql_lemmas.proofs.Tests.{names_decide}
 use Rattle.std.proofs.Math.Bool.{and-true}
 use Rattle.sql_lemmas.proofs.Frames.{twos_apart, wide_one, RunsOn}
 use Rattle.sqlite.specs.Schema.{Schema}
@@ -50,7 +50,7 @@ meeting_is cells x h =
 chosen_so : (m meeting : List ℕ) → meeting_of meeting ≡ Some m → (cells : Row) (x : InMeeting RegisterRow) → register.means (columns_of register cells) ≡ Some x
     → passes (op2 (Compare Eq Binary) (col 1 1) (col 0 0) ∷ []) (Text meeting ∷ []) cells ≡ same_name x.meeting m
 unfolding parsed_in
-chosen_so m meeting is cells x h = and-true _ ∙ names_tell (column cells 1) meeting x.meeting m (meeting_is (columns_of register cells) x h) is
+chosen_so m meeting is cells x h = and-true _ ∙ names_decide (column cells 1) meeting x.meeting m (meeting_is (columns_of register cells) x h) is
 
 pub empties_meeting : (m meeting : List ℕ) → meeting_of meeting ≡ Some m → (old new : State) (r : Result ℕ Error) → IsDesk old → IsTrue old.in_transaction
     → ExecutesInside 0 empty_text (Text meeting ∷ []) old new r → OnOk r (TakesOut register (λ x. same_name x.meeting m) old new)

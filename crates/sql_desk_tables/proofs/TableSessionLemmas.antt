@@ -31,7 +31,7 @@ use Rattle.sql_schema.specs.Tables.{sessions_table as table}
 use Rattle.sql_lemmas.proofs.Deleting.{picked, passes}
 use Rattle.sql_lemmas.proofs.Frames.{twos_apart, wide, RunsOn}
 use Rattle.sql_lemmas.proofs.Seq.{is_its_id}
-use Rattle.sql_lemmas.proofs.Tests.{names_tell, numbers_tell, kept_spelled, kept_integer}
+use Rattle.sql_lemmas.proofs.Tests.{names_decide, numbers_decide, preserved_spelled, preserved_integer}
 use Rattle.sql_lemmas.proofs.Updating.{new_row, changes_rows, sets}
 use Rattle.sql_lemmas.proofs.Values.{cast_int}
 
@@ -81,7 +81,7 @@ chosen_so : (m meeting : List ℕ) (k : ℕ) (n : ℤ) (rest : Row) → meeting_
 unfolding parsed_in number_in
 chosen_so m meeting k n rest is number cells x h =
     let p = parts (columns_of sessions cells) x h in
-    ap₂ ◌&&◌ (names_tell (column cells 1) meeting x.meeting m p.meeting is) (and-true _ ∙ numbers_tell (column cells 2) n x.item.number k p.number number)
+    ap₂ ◌&&◌ (names_decide (column cells 1) meeting x.meeting m p.meeting is) (and-true _ ∙ numbers_decide (column cells 2) n x.item.number k p.number number)
 
 keeps_number : (cells : Row) → IsTrue (is_int (rowid cells)) → cast Integer (rowid cells) ≡ rowid cells
 keeps_number cells keyed = subst (λ v. cast Integer v ≡ v) (sym (is_its_id cells keyed)) (cast_int (id_in (rowid cells)))
@@ -92,9 +92,9 @@ unfolding parsed_in moment_in number_in some_moment_in
 again cells x h z moment at =
     let p = parts (columns_of sessions cells) x h in
     whole_row (cast Texts (column cells 1) ∷ cast Integer (column cells 2) ∷ cast Integer (column cells 3) ∷ cast Integer (Int z) ∷ []) (record x { item = numbered_opened_at moment x.item }) (record {
-      meeting = kept_spelled meeting_of (column cells 1) x.meeting p.meeting;
-      number = kept_integer natural_of (column cells 2) x.item.number p.number;
-      appointed = kept_integer moment_of_number (column cells 3) x.item.item.appointed p.appointed;
+      meeting = preserved_spelled meeting_of (column cells 1) x.meeting p.meeting;
+      number = preserved_integer natural_of (column cells 2) x.item.number p.number;
+      appointed = preserved_integer moment_of_number (column cells 3) x.item.item.appointed p.appointed;
       opened = rw (cast_int z, at) refl;
     })
 

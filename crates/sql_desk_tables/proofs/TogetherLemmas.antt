@@ -99,10 +99,10 @@ module _ {layout : Layout} {schema : Schema} (apart : AreApart layout schema) (a
       let all = placed_rows table.is_counted last (db table.tree) cells (was.rising table.tree numbered_so) in
       let put : edited db (insert_edit db table i.counter (rows_of_values table params width terms)) ≡ db table.tree ++ all.added =
       ap (λ (l : List Row). put_all (db table.tree) (numbered (rowids_for table last) (db table.tree) l)) cast ∙ all.placed in
-      let mine : new.now.trees table.tree ≡ db table.tree ++ all.added = i.kept apart.counts apart.counted table.tree numbered_so (no_count apart table.tree numbered_so) ∙ i.put.rows ∙ put in
-      let kept = λ (number : ℕ) (is_one : IsTrue (has_table layout number)) (other : number ≢ table.tree). i.kept apart.counts apart.counted number is_one (no_count apart number is_one) ∙ step apart db i.mid (insert_edit db table i.counter (rows_of_values table params width terms)) i.put number is_one other in
+      let mine : new.now.trees table.tree ≡ db table.tree ++ all.added = i.preserved apart.counts apart.counted table.tree numbered_so (no_count apart table.tree numbered_so) ∙ i.put.rows ∙ put in
+      let preserved = λ (number : ℕ) (is_one : IsTrue (has_table layout number)) (other : number ≢ table.tree). i.preserved apart.counts apart.counted number is_one (no_count apart number is_one) ∙ step apart db i.mid (insert_edit db table i.counter (rows_of_values table params width terms)) i.put number is_one other in
       let rises : IsRising (new.now.trees table.tree) = subst IsRising (sym mine) all.rises in
-      record { added = all.added; have = all.have; rows = mine; others = kept; schema = i.same_schema ∙ sym has; desk = still_desk table.tree old new was (i.same_schema ∙ sym has) kept rises; inside = w.shown.mode ∙ inside; sound = w.sound }
+      record { added = all.added; have = all.have; rows = mine; others = preserved; schema = i.same_schema ∙ sym has; desk = still_desk table.tree old new was (i.same_schema ∙ sym has) preserved rises; inside = w.shown.mode ∙ inside; sound = w.sound }
 
 -- ---- what the rows mean
 

@@ -52,7 +52,7 @@ pub fn all<S: Alter>(tx: &mut Transaction<'_, S>) -> Result<Vec<Row>, Error>
         ReadsTable S.Store tx.old.conn.now tx.new.conn.now desk rows.items) }
     ensures shown { HasCleanDisk (state S.Store tx.new.conn.now) → IfOk result (λ rows.
         ShowsVersions S.Store (state S.Store tx.old.conn.now).now rows.items) }
-    ensures kept { HasCleanDisk (state S.Store tx.new.conn.now)
+    ensures preserved { HasCleanDisk (state S.Store tx.new.conn.now)
         → NotesVersion (state S.Store tx.old.conn.now).now.schema
         → KeepsCommit (state S.Store tx.old.conn.now) (state S.Store tx.new.conn.now) }
     ensures was_open { WasOpen (state S.Store tx.old.conn.now) (state S.Store tx.new.conn.now) }

@@ -43,7 +43,7 @@ pub record MakesIn {F S : Type 0} (Closes : F → List ℕ → Held S → F → 
     (before : F) (name : List ℕ) (first : Held S) (result : Making) (after : F) : Type 0 where
   pub made : Held S
   pub creates : Creates (state g first) (state g made) result
-  pub kept : OnErr result (KeepsOpenTables g first made)
+  pub preserved : OnErr result (KeepsOpenTables g first made)
   pub leaves : LeavesNewDesk g made result
   pub survives : SurvivesMaking g first made
   pub closed : Closes before name made after

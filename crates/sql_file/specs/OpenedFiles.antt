@@ -56,7 +56,7 @@ pub record RefusesTables {F S : Type 0} (GivesUp : F → List ℕ → Held S →
   pub fault : OpenFault
   pub is : why ≡ open_error fault
   pub cause : IsWhyUnopened g first fault (handed.Connection back)
-  pub kept : KeepsOpenRows g first back
+  pub preserved : KeepsOpenRows g first back
   pub survives : SurvivesMoving g first back
   pub given_up : GivesUp before name back after
 

@@ -81,7 +81,7 @@ fn give_up<S: TableFile>(files: &mut SystemFiles<S>, name: &str, conn: Connectio
 #[tactic(auto, using(crate::proofs::MakingLemmas::unmade))]
 fn init<S: Alter + Drop>(conn: Connection<S>) -> (Result<(), DeskFileError>, Connection<S>)
     ensures creates { Creates (state S.Store conn) (state S.Store result.1) result.0 }
-    ensures kept { OnErr result.0 (KeepsOpenTables S.Store conn result.1) }
+    ensures preserved { OnErr result.0 (KeepsOpenTables S.Store conn result.1) }
     ensures leaves { LeavesNewDesk S.Store result.1 result.0 }
     ensures survives { SurvivesMaking S.Store conn result.1 }
 {

@@ -97,45 +97,45 @@ module _ {layout : Layout} {schema : Schema} (apart : AreApart layout schema) wh
       let same = it.numbered in
       subst (λ n. next n ≡ db n) same (all-slice_get (λ (t : Table). t.tree ≢ edit.table.tree → next t.tree ≡ db t.tree) schema.tables it.place it.table it.there h.tables (λ e. other (sym same ∙ e)))
 
-  abbrev AreKept : Trees → Trees → Type 0
-  AreKept db next = (number : ℕ) → IsTrue (has_table layout number) → next number ≡ db number
+  abbrev ArePreserved : Trees → Trees → Type 0
+  ArePreserved db next = (number : ℕ) → IsTrue (has_table layout number) → next number ≡ db number
 
   own_number : (t : Table) → is_other layout t ≡ true → (number : ℕ) → IsTrue (has_table layout number) → number ≢ t.tree
   own_number t other number is e = absurd (true≢false (sym (rw (sym e, is) at other)))
 
   -- the actions that are still to come leave the tables of the desk
-  settles : (n : ℕ) (db next : Trees) (stack : List Work) → AllByRecursion (IsOnOther layout) stack → Leads schema Enforced n db stack (Ok next) → AreKept db next
+  settles : (n : ℕ) (db next : Trees) (stack : List Work) → AllByRecursion (IsOnOther layout) stack → Leads schema Enforced n db stack (Ok next) → ArePreserved db next
   settles zero db next stack on h = λ number is. let same : db ≡ next = let e = h.1 in cc in ap (λ (t : Trees). t number) (sym same)
   settles (suc n) db next stack on (below, w, same, acts) = acted (λ mid more. settles n mid next more) acts
     where
       Later : Type 0
-      Later = (mid : Trees) (more : List Work) → AllByRecursion (IsOnOther layout) more → Leads schema Enforced n mid more (Ok next) → AreKept mid next
+      Later = (mid : Trees) (more : List Work) → AllByRecursion (IsOnOther layout) more → Leads schema Enforced n mid more (Ok next) → ArePreserved mid next
 
       parts : AllByRecursion (IsOnOther layout) below × IsOnOther layout w
       parts = last_of (IsOnOther layout) below w (subst (AllByRecursion (IsOnOther layout)) same on)
 
-      went : Later → (edit : Edit) → is_other layout edit.table ≡ true → Goes schema Enforced (Leads schema Enforced n) db edit (w.depth + 1) below (Ok next) → AreKept db next
+      went : Later → (edit : Edit) → is_other layout edit.table ≡ true → Goes schema Enforced (Leads schema Enforced n) db edit (w.depth + 1) below (Ok next) → ArePreserved db next
       went later edit other (inl refused) = absurd (let e = refused.2 in cc)
       went later edit other (inr (inl big)) = absurd (let e = big.3 in cc)
       went later edit other (inr (inr (mid, applied, rest))) = λ number is.
           later mid _ (all-append (IsOnOther layout) below _ parts.0 (all_on_others layout schema (w.depth + 1) edit.table.tree (taken_by db edit) edit.news apart.acts)) rest number is
           ∙ step db mid edit applied number is (own_number edit.table other number is)
 
-      acts_on : Later → (ids : List ℤ) → ActsOn schema Enforced (Leads schema Enforced n) db w below (Ok next) ids → AreKept db next
+      acts_on : Later → (ids : List ℤ) → ActsOn schema Enforced (Leads schema Enforced n) db w below (Ok next) ids → ArePreserved db next
       acts_on later [] h = later db below parts.0 h
       acts_on later (id ∷ ids) h = elim (cases_Bool (refuses w.deed)) [
         | inl refused ↦ absurd (let e : Ok next ≡ Err (Some (Violates ForeignKey)) = rw refused at h in cc)
         | inr does ↦ went later (action_edit db w (id ∷ ids)) parts.1 (rw does at h)
       ]
 
-      acted : Later → Acts schema Enforced (Leads schema Enforced n) db w below (Ok next) → AreKept db next
+      acted : Later → Acts schema Enforced (Leads schema Enforced n) db w below (Ok next) → ArePreserved db next
       acted later h = elim (cases_Bool (nat_lt w.depth max_depth)) [
         | inl room ↦ let children = rw room at h in acts_on later children.0 children.2
         | inr deep ↦ absurd (let e : Ok next ≡ Err (Some TooDeep) = rw deep at h in cc)
       ]
 
   -- the first step of a write, and its actions leave the tables of the desk
-  pub first_step : (db next : Trees) (edit : Edit) → Leaves schema Enforced db edit (Ok next) → (mid : Trees) × Applies schema Enforced db edit mid × AreKept mid next
+  pub first_step : (db next : Trees) (edit : Edit) → Leaves schema Enforced db edit (Ok next) → (mid : Trees) × Applies schema Enforced db edit mid × ArePreserved mid next
   first_step db next edit (inl refused) = absurd (let e = refused.2 in cc)
   first_step db next edit (inr (inl big)) = absurd (let e = big.3 in cc)
   first_step db next edit (inr (inr went)) =

@@ -57,11 +57,11 @@ module _ {layout : Layout} {schema : Schema} (apart : AreApart layout schema) (a
       let row = Int id ∷ cells in
       let put : edited db (insert_edit db table i.counter (rows_of_values table params width terms)) ≡ db table.tree ++ row ∷ [] =
       ap (λ (l : List Row). put_all (db table.tree) (numbered (rowids_for table last) (db table.tree) l)) cast ∙ placed table.is_counted last (db table.tree) cells up in
-      let mine : new.now.trees table.tree ≡ db table.tree ++ row ∷ [] = i.kept apart.counts apart.counted table.tree numbered_so (no_count apart table.tree numbered_so) ∙ i.put.rows ∙ put in
-      let kept = λ (number : ℕ) (is_one : IsTrue (has_table layout number)) (other : number ≢ table.tree). i.kept apart.counts apart.counted number is_one (no_count apart number is_one) ∙ step apart db i.mid (insert_edit db table i.counter (rows_of_values table params width terms)) i.put number is_one other in
+      let mine : new.now.trees table.tree ≡ db table.tree ++ row ∷ [] = i.preserved apart.counts apart.counted table.tree numbered_so (no_count apart table.tree numbered_so) ∙ i.put.rows ∙ put in
+      let preserved = λ (number : ℕ) (is_one : IsTrue (has_table layout number)) (other : number ≢ table.tree). i.preserved apart.counts apart.counted number is_one (no_count apart number is_one) ∙ step apart db i.mid (insert_edit db table i.counter (rows_of_values table params width terms)) i.put number is_one other in
       let last_is = put_last row (db table.tree) (below_chosen table.is_counted last (db table.tree) up) in
       let rises : IsRising (new.now.trees table.tree) = subst IsRising (sym (mine ∙ sym last_is)) (IsShaped-put_row row (db table.tree) refl up) in
-      record { id = id; rows = mine; others = kept; schema = i.same_schema ∙ sym has; desk = still_desk table.tree old new was (i.same_schema ∙ sym has) kept rises; inside = w.shown.mode ∙ inside; sound = w.sound }
+      record { id = id; rows = mine; others = preserved; schema = i.same_schema ∙ sym has; desk = still_desk table.tree old new was (i.same_schema ∙ sym has) preserved rises; inside = w.shown.mode ∙ inside; sound = w.sound }
 
 -- a row with a number of its own, above the others, keeps it and stands last
 placed_so : (counts : Bool) (last : ℤ) (rows : List Row) (id : ℤ) (cells : Row) → AllByRecursion (IsBelow id) rows
@@ -84,10 +84,10 @@ module _ {layout : Layout} {schema : Schema} (apart : AreApart layout schema) (a
       let row = Int id ∷ cells in
       let put : edited db (insert_edit db table i.counter (rows_of_values table params width terms)) ≡ db table.tree ++ row ∷ [] =
       ap (λ (l : List Row). put_all (db table.tree) (numbered (rowids_for table last) (db table.tree) l)) cast ∙ placed_so table.is_counted last (db table.tree) id cells below in
-      let mine : new.now.trees table.tree ≡ db table.tree ++ row ∷ [] = i.kept apart.counts apart.counted table.tree numbered_so (no_count apart table.tree numbered_so) ∙ i.put.rows ∙ put in
-      let kept = λ (number : ℕ) (is_one : IsTrue (has_table layout number)) (other : number ≢ table.tree). i.kept apart.counts apart.counted number is_one (no_count apart number is_one) ∙ step apart db i.mid (insert_edit db table i.counter (rows_of_values table params width terms)) i.put number is_one other in
+      let mine : new.now.trees table.tree ≡ db table.tree ++ row ∷ [] = i.preserved apart.counts apart.counted table.tree numbered_so (no_count apart table.tree numbered_so) ∙ i.put.rows ∙ put in
+      let preserved = λ (number : ℕ) (is_one : IsTrue (has_table layout number)) (other : number ≢ table.tree). i.preserved apart.counts apart.counted number is_one (no_count apart number is_one) ∙ step apart db i.mid (insert_edit db table i.counter (rows_of_values table params width terms)) i.put number is_one other in
       let rises : IsRising (new.now.trees table.tree) = subst IsRising (sym (mine ∙ sym (put_last row (db table.tree) below))) (IsShaped-put_row row (db table.tree) refl (was.rising table.tree numbered_so)) in
-      (record { id = id; rows = mine; others = kept; schema = i.same_schema ∙ sym has; desk = still_desk table.tree old new was (i.same_schema ∙ sym has) kept rises; inside = w.shown.mode ∙ inside; sound = w.sound }, refl)
+      (record { id = id; rows = mine; others = preserved; schema = i.same_schema ∙ sym has; desk = still_desk table.tree old new was (i.same_schema ∙ sym has) preserved rises; inside = w.shown.mode ∙ inside; sound = w.sound }, refl)
 
 -- what the new row means is added to what the rows mean
 pub means_more : {A : Type 0} {layout : Layout} (it : TableOf A) (cells : Row) (added : A) (old new : State) (h : AddsRow layout it.number cells old new) → it.means (columns_of it (Int h.id ∷ cells)) ≡ Some added → ChangesIn layout it (λ was. was ++ added ∷ []) old new

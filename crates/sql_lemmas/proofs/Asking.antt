@@ -99,7 +99,7 @@ pub commits_nothing : {S V : Type 0} (g : store.Ghosts S) (a b : Held S) (items 
     → (HasCleanDisk (state g b) → IfErr r (λ e. FailsToQuery sql params (state g a) (state g b) e ⊎ IsTooLate sql params (state g a) (state g b) e))
     → Survives (state g a) (state g b) (λ _. ⊥) → CommitsNothing g a b
 commits_nothing g a b items sql params r asks ok err crash = record {
-  kept = λ clean. record {
+  preserved = λ clean. record {
     was_open = query_opened items sql params (state g a) (state g b) r (ok clean) (err clean);
     committed = keeps sql asks params (state g a) (state g b) items r (ok clean) (err clean);
   };

@@ -80,7 +80,7 @@ executed_keeps sql params old new (Err e) (inr h) = unchanged_keeps old new h.2
 pub writes_nothing : {S P : Type 0} (g : store.Ghosts S) (old new : Held S) (sql : List ℕ) (params : Row) (r : Result ℕ Error) → ((state g old).in_transaction ≡ false → P × (new ≡ old))
     → (HasCleanDisk (state g new) → IsTrue (state g old).in_transaction → ExecutesInside 0 sql params (state g old) (state g new) r) → Survives (state g old) (state g new) (λ _. ⊥) → CommitsNothing g old new
 writes_nothing g old new sql params r ended runs crash = record {
-  kept = λ clean. elim (cases_Bool (state g old).in_transaction) [
+  preserved = λ clean. elim (cases_Bool (state g old).in_transaction) [
     | inl inside ↦ executed_keeps sql params (state g old) (state g new) r (runs clean inside)
     | inr out ↦ subst (λ (h : Held _). KeepsCommit (state g old) (state g h)) (sym (ended out).1) (record { was_open = λ o. o; committed = λ o. refl })
   ];

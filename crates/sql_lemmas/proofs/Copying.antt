@@ -132,17 +132,17 @@ module _ {layout : Layout} {schema : Schema} (apart : AreApart layout schema) (a
       let news : map (λ s. cast_row table (drop 0 s)) found.0 ≡ map (copy_by table project) rows = ap (map (λ s. cast_row table (drop 0 s))) shown ∙ map-map (λ s. cast_row table (drop 0 s)) (λ r. eval_all project ([] ∷ r ∷ [])) rows in
       let last = count_of i.counter in
       let edit = insert_edit db table i.counter found.0 in
-      let mine : new.now.trees table.tree ≡ put_all (db table.tree) edit.news = i.kept apart.counts apart.counted table.tree numbered_so (no_count apart table.tree numbered_so) ∙ i.put.rows in
-      let kept = λ (number : ℕ) (is_one : IsTrue (has_table layout number)) (other : number ≢ table.tree). i.kept apart.counts apart.counted number is_one (no_count apart number is_one) ∙ step apart db i.mid edit i.put number is_one other in
+      let mine : new.now.trees table.tree ≡ put_all (db table.tree) edit.news = i.preserved apart.counts apart.counted table.tree numbered_so (no_count apart table.tree numbered_so) ∙ i.put.rows in
+      let preserved = λ (number : ℕ) (is_one : IsTrue (has_table layout number)) (other : number ≢ table.tree). i.preserved apart.counts apart.counted number is_one (no_count apart number is_one) ∙ step apart db i.mid edit i.put number is_one other in
       let rises : IsRising (new.now.trees table.tree) = subst IsRising (sym mine) (all_risen (db table.tree) edit.news (was.rising table.tree numbered_so) i.put.keyed) in
       record {
         rows = λ empty.
             mine ∙ ap (λ l. put_all (db table.tree) (numbered (rowids_for table last) (db table.tree) l)) news
             ∙ ap (λ l. put_all l (numbered (rowids_for table last) l (map (copy_by table project) rows))) empty
             ∙ all_copied (copy_by table project) keeps table.is_counted last rows up;
-        others = kept;
+        others = preserved;
         schema = i.same_schema ∙ sym has;
-        desk = still_desk table.tree old new was (i.same_schema ∙ sym has) kept rises;
+        desk = still_desk table.tree old new was (i.same_schema ∙ sym has) preserved rises;
         inside = w.shown.mode ∙ inside;
         sound = w.sound;
       }

@@ -148,8 +148,8 @@ picked_rows tree tests shows db params rows none a =
     let here : overlay db [] tree ≡ db tree = rw none in
     let staged : a.staged ≡ map (λ r. params ∷ r ∷ []) (filter (passes tests params) (db tree)) =
     a.grouped ∙ each_passed (λ r. params ∷ r ∷ []) (passes tests params) (overlay db [] tree) ∙ ap (λ rs. map (λ r. params ∷ r ∷ []) (filter (passes tests params) rs)) here in
-    let kept : a.kept ≡ map (λ r. output q (params ∷ r ∷ [])) (filter (passes tests params) (db tree)) = a.distinct ∙ ap (map (output q)) staged ∙ map-map (output q) (λ r. params ∷ r ∷ []) _ in
-    let same = IsPermutation-map (λ (o : Output). o.1) _ _ (subst (λ k. IsPermutation k a.ordered) kept a.same) in
+    let preserved : a.kept ≡ map (λ r. output q (params ∷ r ∷ [])) (filter (passes tests params) (db tree)) = a.distinct ∙ ap (map (output q)) staged ∙ map-map (output q) (λ r. params ∷ r ∷ []) _ in
+    let same = IsPermutation-map (λ (o : Output). o.1) _ _ (subst (λ k. IsPermutation k a.ordered) preserved a.same) in
     subst (IsPermutation (map (λ r. eval_all (col 1 0 ∷ shows) (params ∷ r ∷ [])) (filter (passes tests params) (db tree)))) (sym a.shown)
     (subst (λ l. IsPermutation l (map (λ (o : Output). o.1) a.ordered)) (map-map (λ (o : Output). o.1) (λ r. output q (params ∷ r ∷ [])) _) same)
 
@@ -168,7 +168,7 @@ left_are tree tests shows db params rows up same =
 pub record Deleted (layout : Layout) (schema : Schema) (table : Table) (tests : List Term) (params : Row) (old new : State) : Type 0 where
   pub same_schema : new.now.schema ≡ schema
   pub left : new.now.trees table.tree ≡ filter (λ r. not (passes tests params r)) (old.now.trees table.tree)
-  pub kept : (number : ℕ) → IsTrue (has_table layout number) → number ≢ table.tree → new.now.trees number ≡ old.now.trees number
+  pub preserved : (number : ℕ) → IsTrue (has_table layout number) → number ≢ table.tree → new.now.trees number ≡ old.now.trees number
 
 pub deleted : {layout : Layout} {schema : Schema} → AreApart layout schema → (old new : State) (at : ℕ) (table : Table) (tests : List Term) (text : List ℕ) (params : Row) (count : ℕ)
     → old.now.schema ≡ schema → slice_get schema.tables at ≡ Some table → given_at [] table.tree ≡ None → IsRising (old.now.trees table.tree) → IsTrue (has_table layout table.tree)
@@ -187,5 +187,5 @@ deleted {schema = schema} apart old new at table tests text params count has the
     record {
       same_schema = ap (λ (d : Database). d.schema) now;
       left = ap (λ (t : Trees). t table.tree) final ∙ one.2 table.tree is ∙ one.1.rows ∙ left_are table.tree tests [] old.now.trees params given.0 up (picked_rows table.tree tests [] old.now.trees params given.0 none (given.1.answer Null));
-      kept = λ number of other. ap (λ (t : Trees). t number) final ∙ one.2 number of ∙ step apart old.now.trees one.0 edit one.1 number of other;
+      preserved = λ number of other. ap (λ (t : Trees). t number) final ∙ one.2 number of ∙ step apart old.now.trees one.0 edit one.1 number of other;
     }

@@ -41,9 +41,9 @@ module _ {layout : Layout} {schema : Schema} (apart : AreApart layout schema) (a
       let d = deleted apart old new at table tests (statement_of text (understood schema text)) params count has there none up numbered_so w in
       record {
         rows = d.left;
-        others = d.kept;
+        others = d.preserved;
         schema = d.same_schema ∙ sym has;
-        desk = still_desk table.tree old new was (d.same_schema ∙ sym has) d.kept (subst IsRising (sym d.left) (IsShaped-filter shape.Table (λ row. not (passes tests params row)) (old.now.trees table.tree) up));
+        desk = still_desk table.tree old new was (d.same_schema ∙ sym has) d.preserved (subst IsRising (sym d.left) (IsShaped-filter shape.Table (λ row. not (passes tests params row)) (old.now.trees table.tree) up));
         inside = w.shown.mode ∙ inside;
         sound = w.sound;
       }
@@ -75,12 +75,12 @@ module _ {A : Type 0} (it : TableOf A) (chooses : Row → Bool) (test : A → Bo
       subst (λ l. all_meanings it.means (map (columns_of it) (cond (not (chooses row)) (row ∷ filter (λ r. not (chooses r)) rows) (filter (λ r. not (chooses r)) rows))) ≡ Some (filter (λ x. not (test x)) l)) (sym each.4)
       (go (chooses row) (test each.0) (same row each.0 each.2) (filter (λ r. not (chooses r)) rows) (filter (λ x. not (test x)) each.1) each.0 each.2 later)
     where
-      go : (a b : Bool) → a ≡ b → (left : List Row) (kept : List A) (x : A) → it.means (columns_of it row) ≡ Some x → all_meanings it.means (map (columns_of it) left) ≡ Some kept
-          → all_meanings it.means (map (columns_of it) (cond (not a) (row ∷ left) left)) ≡ Some (cond (not b) (x ∷ kept) kept)
-      go true true e left kept x means later = later
-      go true false e left kept x means later = absurd cc
-      go false true e left kept x means later = absurd cc
-      go false false e left kept x means later = rw (means, later) refl
+      go : (a b : Bool) → a ≡ b → (left : List Row) (those : List A) (x : A) → it.means (columns_of it row) ≡ Some x → all_meanings it.means (map (columns_of it) left) ≡ Some those
+          → all_meanings it.means (map (columns_of it) (cond (not a) (row ∷ left) left)) ≡ Some (cond (not b) (x ∷ those) those)
+      go true true e left those x means later = later
+      go true false e left those x means later = absurd cc
+      go false true e left those x means later = absurd cc
+      go false false e left those x means later = rw (means, later) refl
 
   pub takes_out : (layout : Layout) (old new : State) (r : Result ℕ Error) → OnOk r (LeavesRows layout it.number (λ row. not (chooses row)) old new) → OnOk r (ChangesIn layout it (filter (λ x. not (test x))) old new)
   takes_out layout old new (Err e) h = tt

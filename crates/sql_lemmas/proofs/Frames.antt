@@ -149,11 +149,11 @@ module _ {layout : Layout} {schema : Schema} (apart : AreApart layout schema) wh
 
 -- the tables are still those of the desk after a write to one of them, where its rows rise
 pub still_desk : {layout : Layout} (changed : ℕ) (old new : State) → IsDeskOf layout old → new.now.schema ≡ old.now.schema → KeepsOthersIn layout changed old new → IsRising (new.now.trees changed) → IsDeskOf layout new
-still_desk {layout = layout} changed old new was schema kept mine = record {
+still_desk {layout = layout} changed old new was schema preserved mine = record {
   schema = subst (HasTables layout) (sym schema) was.schema;
   rising = λ number is. elim (eqb_tells number changed) [
     | inl same ↦ subst (λ n. IsRising (new.now.trees n)) (sym same.1) mine
-    | inr other ↦ subst IsRising (sym (kept number is other.1)) (was.rising number is)
+    | inr other ↦ subst IsRising (sym (preserved number is other.1)) (was.rising number is)
   ];
 }
 
@@ -162,7 +162,7 @@ pub extended_desk : (old new : State) → ExtendsSchema layout_one.schema layout
 extended_desk old new made was = record {
   schema = subst (HasTables layout_two) (sym made.schema) twos_declared;
   rising = λ number is. elim (cases_Bool (has_table layout_one number)) [
-    | inl early ↦ subst IsRising (sym (of_tree (λ n. new.now.trees n ≡ old.now.trees n) layout_one.schema.tables number made.kept (declared_so (ones_apart layout_one.schema ones_declared) number early))) (was.rising number early)
+    | inl early ↦ subst IsRising (sym (of_tree (λ n. new.now.trees n ≡ old.now.trees n) layout_one.schema.tables number made.preserved (declared_so (ones_apart layout_one.schema ones_declared) number early))) (was.rising number early)
     | inr later ↦
         let more : list_any (λ n. n == number) (29 ∷ 31 ∷ 33 ∷ 35 ∷ []) ≡ true = rw later at (sym (list_any-append (λ n. n == number) layout_one.numbers (29 ∷ 31 ∷ 33 ∷ 35 ∷ [])) ∙ is) in
         subst IsRising (sym (of_tree (λ n. new.now.trees n ≡ []) added_tables number made.empty more)) (tt, tt)

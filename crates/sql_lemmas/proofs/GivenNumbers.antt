@@ -41,12 +41,12 @@ none_below {A} table (row ∷ rows) was id h none =
 day_is : (k : ℤ) (d : ℕ) → unix_day k ≡ Some d → k +ℤ pos 25567 ≡ pos d
 day_is k d h = go (k +ℤ pos 25567) h
   where
-    kept : (n : ℕ) (b : Bool) → ◌≡◌ {A = Option ℕ} (if b then Some n else None) (Some d) → n ≡ d
-    kept n true e = cc
-    kept n false e = absurd cc
+    preserved : (n : ℕ) (b : Bool) → ◌≡◌ {A = Option ℕ} (if b then Some n else None) (Some d) → n ≡ d
+    preserved n true e = cc
+    preserved n false e = absurd cc
 
     go : (z : ℤ) → (natural_of z >>= up_to 401766) ≡ Some d → z ≡ pos d
-    go (pos n) e = ap pos (kept n (nat_le n 401766) e)
+    go (pos n) e = ap pos (preserved n (nat_le n 401766) e)
     go (negsuc n) e = absurd cc
 
 earlier : (k n : ℤ) (d day : ℕ) → k +ℤ pos 25567 ≡ pos d → n +ℤ pos 25567 ≡ pos day → nat_lt d day ≡ true → k <ℤ n

@@ -41,7 +41,7 @@ module _ {A V S : Type 0} {layout : Layout} {it : TableOf A} {table : Table} (li
   pub listing_changes : (HasCleanDisk (state g new) → IfErr r (λ e. FailsToQuery (listing_text table) [] (state g old) (state g new) e ⊎ IsTooLate (listing_text table) [] (state g old) (state g new) e)) → Survives (state g old) (state g new) (λ _. ⊥)
       → ChangesNothingIn layout g old new
   listing_changes refused crash = record {
-    kept = λ read. query_keeps items (listing_text table) [] (state g old) (state g new) (state g old).now.schema (lists.asks (state g old).now.schema read.1.schema).plain r refl (shown read.0) (refused read.0);
+    preserved = λ read. query_keeps items (listing_text table) [] (state g old) (state g new) (state g old).now.schema (lists.asks (state g old).now.schema read.1.schema).plain r refl (shown read.0) (refused read.0);
     was_open = λ clean. query_opened items (listing_text table) [] (state g old) (state g new) r (shown clean) (refused clean);
     crash = crash;
   }

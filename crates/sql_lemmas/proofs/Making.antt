@@ -46,9 +46,9 @@ module _ (P : Table → Type 0) where
   all_of (t ∷ tables) more h k = (h.0, all_of tables more h.1 k)
 
 -- rows that are kept twice
-kept_twice : (tables : List Table) (a b c : Trees) → KeepsRows tables a b → KeepsRows tables b c → KeepsRows tables a c
-kept_twice [] a b c h k = tt
-kept_twice (t ∷ tables) a b c h k = (k.0 ∙ h.0, kept_twice tables a b c h.1 k.1)
+preserved_twice : (tables : List Table) (a b c : Trees) → KeepsRows tables a b → KeepsRows tables b c → KeepsRows tables a c
+preserved_twice [] a b c h k = tt
+preserved_twice (t ∷ tables) a b c h k = (k.0 ∙ h.0, preserved_twice tables a b c h.1 k.1)
 
 -- tables with no row that keep their rows have none
 still_empty : (tables : List Table) (a b : Trees) → AllByRecursion (λ (t : Table). a t.tree ≡ []) tables → KeepsRows tables a b → AllByRecursion (λ (t : Table). b t.tree ≡ []) tables
@@ -64,7 +64,7 @@ pub extends_empty : (a b : Schema) → Grows a b → (old new : State) → Exten
 extends_empty a b ab old new made was = (
   made.schema,
   subst (λ (l : List Table). AllByRecursion (λ (t : Table). new.now.trees t.tree ≡ []) l) (sym ab)
-      (all_of (λ t. new.now.trees t.tree ≡ []) a.tables (drop (length a.tables) b.tables) (still_empty a.tables old.now.trees new.now.trees was.1 made.kept) made.empty),
+      (all_of (λ t. new.now.trees t.tree ≡ []) a.tables (drop (length a.tables) b.tables) (still_empty a.tables old.now.trees new.now.trees was.1 made.preserved) made.empty),
 )
 
 -- ---- a table
@@ -83,10 +83,10 @@ made old new schema text table (Ok count) is alone plain defined full was inside
     let whole : lacks_sequence first.0.schema ≡ false = ap lacks_sequence is ∙ full in
     let now : new.now ≡ first.0 = ap (λ (p : Tally × Database). p.1) (same_value all.2) ∙ same_value (rw whole at first.2) in
     let empty : first.0.trees (next_tree schema) ≡ [] = subst (λ s. first.0.trees (next_tree s) ≡ []) was it.empty in
-    let kept = subst (λ (s : Schema). KeepsRows s.tables old.now.trees first.0.trees) was it.others in (
+    let preserved = subst (λ (s : Schema). KeepsRows s.tables old.now.trees first.0.trees) was it.others in (
       record {
         schema = ap (λ (d : Database). d.schema) now ∙ is;
-        kept = subst (λ (d : Database). KeepsRows schema.tables old.now.trees d.trees) (sym now) kept;
+        preserved = subst (λ (d : Database). KeepsRows schema.tables old.now.trees d.trees) (sym now) preserved;
         empty = subst (λ (l : List Table). AllByRecursion (λ (t : Table). new.now.trees t.tree ≡ []) l) (sym (behind schema.tables (record table { tree = next_tree schema } ∷ [])))
             (subst (λ (d : Database). d.trees (next_tree schema) ≡ []) (sym now) empty, tt);
       },
@@ -108,7 +108,7 @@ made_counted old new schema text table counts (Ok count) is alone plain defined 
     let mid : first.0.schema ≡ created schema table = it.is ∙ ap (λ s. created s it.table) was ∙ ap (created schema) same in
     let needs : lacks_sequence first.0.schema ≡ true = ap lacks_sequence mid ∙ lacks in
     let empty : first.0.trees (next_tree schema) ≡ [] = subst (λ s. first.0.trees (next_tree s) ≡ []) was it.empty in
-    let kept = subst (λ (s : Schema). KeepsRows s.tables old.now.trees first.0.trees) was it.others in
+    let preserved = subst (λ (s : Schema). KeepsRows s.tables old.now.trees first.0.trees) was it.others in
     let second = rw needs at first.2 in
     let same_counts : second.table ≡ counts = same_value (sym second.defined ∙ counts_are) in
     let now : new.now ≡ all.0 = ap (λ (p : Tally × Database). p.1) (same_value all.2) in
@@ -119,7 +119,7 @@ made_counted old new schema text table counts (Ok count) is alone plain defined 
     let stays = λ (t : Table). all.0.trees t.tree ≡ first.0.trees t.tree in (
       record {
         schema = ap (λ (d : Database). d.schema) now ∙ is_so;
-        kept = subst (λ (d : Database). KeepsRows schema.tables old.now.trees d.trees) (sym now) (kept_twice schema.tables old.now.trees first.0.trees all.0.trees kept (before_of stays schema.tables (one ∷ []) later));
+        preserved = subst (λ (d : Database). KeepsRows schema.tables old.now.trees d.trees) (sym now) (preserved_twice schema.tables old.now.trees first.0.trees all.0.trees preserved (before_of stays schema.tables (one ∷ []) later));
         empty = subst (λ (l : List Table). AllByRecursion (λ (t : Table). new.now.trees t.tree ≡ []) l) (sym (behind_both schema.tables one (record counts { tree = next_tree (created schema table) })))
             (subst (λ (d : Database). (d.trees (next_tree schema) ≡ []) × ((d.trees (next_tree (created schema table)) ≡ []) × Unit {0})) (sym now) ((behind_of stays schema.tables (one ∷ []) later).0 ∙ empty, (last, tt)));
       },
@@ -142,7 +142,7 @@ made_index old new schema at text table index (Ok count) is alone plain there de
     let now : new.now ≡ done.0 = ap (λ (p : Tally × Database). p.1) (same_value done.2) in (
       record {
         schema = ap (λ (d : Database). d.schema) now ∙ is_so;
-        kept = subst (λ (d : Database). KeepsRows schema.tables old.now.trees d.trees) (sym now) it.rows;
+        preserved = subst (λ (d : Database). KeepsRows schema.tables old.now.trees d.trees) (sym now) it.rows;
         empty = subst (λ (l : List Table). AllByRecursion (λ (t : Table). new.now.trees t.tree ≡ []) l) (sym (behind_none schema.tables)) tt;
       },
       w.shown.mode ∙ inside,

@@ -24,7 +24,7 @@ use Rattle.sql_schema.specs.Statements.{ChangesNothing, FindsRecords, HasTables,
 use Rattle.sql_lemmas.proofs.Commits.{query_keeps, query_opened}
 use Rattle.sql_lemmas.proofs.Deleting.{passes}
 use Rattle.sql_lemmas.proofs.Reading.{AsksAs, finds, sought}
-use Rattle.sql_lemmas.proofs.Tests.{names_tell, numbers_tell}
+use Rattle.sql_lemmas.proofs.Tests.{names_decide, numbers_decide}
 
 -- ---- the tests of WHERE
 
@@ -50,32 +50,32 @@ party_name bytes name h = go (is_party bytes) (is_name bytes) (λ is. first_so (
     go false any is h = absurd cc
 
 -- so a row is chosen by a party's name exactly where it names that party
-parties_tell : (v : Value) (s m n : List ℕ) → parsed_of party_of v ≡ Some m → party_of s ≡ Some n → is_true (binary (Compare Eq Binary) v (Text s)) ≡ same_name m n
-parties_tell (Text t) s m n h k = names_tell (Text t) s m n (party_name t m h) (party_name s n k)
-parties_tell v s m n h k = absurd cc
+parties_decide : (v : Value) (s m n : List ℕ) → parsed_of party_of v ≡ Some m → party_of s ≡ Some n → is_true (binary (Compare Eq Binary) v (Text s)) ≡ same_name m n
+parties_decide (Text t) s m n h k = names_decide (Text t) s m n (party_name t m h) (party_name s n k)
+parties_decide v s m n h k = absurd cc
 
-pub one_tells : (cells : Row) (at : ℕ) (s m a : List ℕ) → parsed_of meeting_of (column cells at) ≡ Some a → meeting_of s ≡ Some m → passes (names_meeting at) (Text s ∷ []) cells ≡ same_name a m
-one_tells cells at s m a here is = and-true _ ∙ names_tell (column cells at) s a m here is
+pub one_decides : (cells : Row) (at : ℕ) (s m a : List ℕ) → parsed_of meeting_of (column cells at) ≡ Some a → meeting_of s ≡ Some m → passes (names_meeting at) (Text s ∷ []) cells ≡ same_name a m
+one_decides cells at s m a here is = and-true _ ∙ names_decide (column cells at) s a m here is
 
-pub both_tell : (cells : Row) (at other : ℕ) (s m t n a b : List ℕ) → parsed_of meeting_of (column cells at) ≡ Some a → meeting_of s ≡ Some m → parsed_of party_of (column cells other) ≡ Some b → party_of t ≡ Some n
+pub both_decide : (cells : Row) (at other : ℕ) (s m t n a b : List ℕ) → parsed_of meeting_of (column cells at) ≡ Some a → meeting_of s ≡ Some m → parsed_of party_of (column cells other) ≡ Some b → party_of t ≡ Some n
     → passes (names_both at other) (Text s ∷ Text t ∷ []) cells ≡ (same_name a m && same_name b n)
-both_tell cells at other s m t n a b here is there party = ap₂ ◌&&◌ (names_tell (column cells at) s a m here is) (and-true _ ∙ parties_tell (column cells other) t b n there party)
+both_decide cells at other s m t n a b here is there party = ap₂ ◌&&◌ (names_decide (column cells at) s a m here is) (and-true _ ∙ parties_decide (column cells other) t b n there party)
 
-pub three_tell : (cells : Row) (at other third : ℕ) (s m t n u p a b d : List ℕ) → parsed_of meeting_of (column cells at) ≡ Some a → meeting_of s ≡ Some m → parsed_of party_of (column cells other) ≡ Some b → party_of t ≡ Some n
+pub three_decide : (cells : Row) (at other third : ℕ) (s m t n u p a b d : List ℕ) → parsed_of meeting_of (column cells at) ≡ Some a → meeting_of s ≡ Some m → parsed_of party_of (column cells other) ≡ Some b → party_of t ≡ Some n
     → parsed_of party_of (column cells third) ≡ Some d → party_of u ≡ Some p → passes (names_three at other third) (Text s ∷ Text t ∷ Text u ∷ []) cells ≡ (same_name a m && (same_name b n && same_name d p))
-three_tell cells at other third s m t n u p a b d here is there party last proxy =
-    ap₂ ◌&&◌ (names_tell (column cells at) s a m here is) (ap₂ ◌&&◌ (parties_tell (column cells other) t b n there party) (and-true _ ∙ parties_tell (column cells third) u d p last proxy))
+three_decide cells at other third s m t n u p a b d here is there party last proxy =
+    ap₂ ◌&&◌ (names_decide (column cells at) s a m here is) (ap₂ ◌&&◌ (parties_decide (column cells other) t b n there party) (and-true _ ∙ parties_decide (column cells third) u d p last proxy))
 
 -- the second parameter is a number
-pub number_tells : (cells : Row) (at other : ℕ) (s m a : List ℕ) (z : ℤ) (k b : ℕ) → parsed_of meeting_of (column cells at) ≡ Some a → meeting_of s ≡ Some m → natural_value (column cells other) ≡ Some b → natural_of z ≡ Some k
+pub number_decides : (cells : Row) (at other : ℕ) (s m a : List ℕ) (z : ℤ) (k b : ℕ) → parsed_of meeting_of (column cells at) ≡ Some a → meeting_of s ≡ Some m → natural_value (column cells other) ≡ Some b → natural_of z ≡ Some k
     → passes (names_both at other) (Text s ∷ Int z ∷ []) cells ≡ (same_name a m && b == k)
-number_tells cells at other s m a z k b here is there number = ap₂ ◌&&◌ (names_tell (column cells at) s a m here is) (and-true _ ∙ numbers_tell (column cells other) z b k there number)
+number_decides cells at other s m a z k b here is there number = ap₂ ◌&&◌ (names_decide (column cells at) s a m here is) (and-true _ ∙ numbers_decide (column cells other) z b k there number)
 
 -- the third parameter is a number
-pub numbered_tell : (cells : Row) (at other third : ℕ) (s m t n a b : List ℕ) (z : ℤ) (k d : ℕ) → parsed_of meeting_of (column cells at) ≡ Some a → meeting_of s ≡ Some m → parsed_of party_of (column cells other) ≡ Some b → party_of t ≡ Some n
+pub numbered_decide : (cells : Row) (at other third : ℕ) (s m t n a b : List ℕ) (z : ℤ) (k d : ℕ) → parsed_of meeting_of (column cells at) ≡ Some a → meeting_of s ≡ Some m → parsed_of party_of (column cells other) ≡ Some b → party_of t ≡ Some n
     → natural_value (column cells third) ≡ Some d → natural_of z ≡ Some k → passes (names_three at other third) (Text s ∷ Text t ∷ Int z ∷ []) cells ≡ (same_name a m && (same_name b n && d == k))
-numbered_tell cells at other third s m t n a b z k d here is there party last number =
-    ap₂ ◌&&◌ (names_tell (column cells at) s a m here is) (ap₂ ◌&&◌ (parties_tell (column cells other) t b n there party) (and-true _ ∙ numbers_tell (column cells third) z d k last number))
+numbered_decide cells at other third s m t n a b z k d here is there party last number =
+    ap₂ ◌&&◌ (names_decide (column cells at) s a m here is) (ap₂ ◌&&◌ (parties_decide (column cells other) t b n there party) (and-true _ ∙ numbers_decide (column cells third) z d k last number))
 
 -- ---- a query
 
@@ -96,7 +96,7 @@ pub asked_alone : {S V : Type 0} (g : store.Ghosts S) (a b : Held S) (items : V 
     → (HasCleanDisk (state g b) → IfErr r (λ e. FailsToQuery sql params (state g a) (state g b) e ⊎ IsTooLate sql params (state g a) (state g b) e))
     → Survives (state g a) (state g b) (λ _. ⊥) → ChangesNothing g a b
 asked_alone g a b items sql params r plain ok err crash = record {
-  kept = λ read. query_keeps items sql params (state g a) (state g b) (state g a).now.schema (plain read) r refl (ok read.0) (err read.0);
+  preserved = λ read. query_keeps items sql params (state g a) (state g b) (state g a).now.schema (plain read) r refl (ok read.0) (err read.0);
   was_open = λ clean. query_opened items sql params (state g a) (state g b) r (ok clean) (err clean);
   crash = crash;
 }

@@ -54,9 +54,9 @@ module _ (tree : ℕ) (project : List Term) (db : Trees) (none : given_at [] tre
       let q = whole tree project in
       let here : overlay db [] tree ≡ db tree = rw none in
       let staged : a.staged ≡ map (λ r. [] ∷ r ∷ []) (db tree) = a.grouped ∙ each_one (λ r. [] ∷ r ∷ []) (overlay db [] tree) ∙ ap (map (λ r. [] ∷ r ∷ [])) here in
-      let kept : a.kept ≡ map shows (db tree) = a.distinct ∙ ap (map (output q)) staged ∙ map-map (output q) (λ r. [] ∷ r ∷ []) (db tree) in
+      let preserved : a.kept ≡ map shows (db tree) = a.distinct ∙ ap (map (output q)) staged ∙ map-map (output q) (λ r. [] ∷ r ∷ []) (db tree) in
       let strict = ascending-map (λ x y. output_cmp q x y ≡ Less) shows (db tree) (ascending_weaker (λ x y. value_cmp (rowid x) (rowid y) ≡ Less) (λ x y. output_cmp q (shows x) (shows y) ≡ Less) rises (db tree) table) in
-      let ordered = sorted_unique (output_cmp q) (output_cmp_total q) (map shows (db tree)) a.ordered strict (subst (λ k. IsPermutation k a.ordered) kept a.same) a.sorted in
+      let ordered = sorted_unique (output_cmp q) (output_cmp_total q) (map shows (db tree)) a.ordered strict (subst (λ k. IsPermutation k a.ordered) preserved a.same) a.sorted in
       a.shown ∙ ap (λ xs. page q [] (map (λ (p : Output). p.1) xs)) ordered ∙ map-map (λ (p : Output). p.1) shows (db tree)
 
 -- a query changes nothing
@@ -121,10 +121,10 @@ module _ (tree : ℕ) (tests project : List Term) (params : Row) (db : Trees) (n
       let here : overlay db [] tree ≡ db tree = rw none in
       let staged : a.staged ≡ map (λ r. params ∷ r ∷ []) found =
       a.grouped ∙ each_passed (λ r. params ∷ r ∷ []) (passes tests params) (overlay db [] tree) ∙ ap (λ rs. map (λ r. params ∷ r ∷ []) (filter (passes tests params) rs)) here in
-      let kept : a.kept ≡ map shows_of found = a.distinct ∙ ap (map (output q)) staged ∙ map-map (output q) (λ r. params ∷ r ∷ []) found in
+      let preserved : a.kept ≡ map shows_of found = a.distinct ∙ ap (map (output q)) staged ∙ map-map (output q) (λ r. params ∷ r ∷ []) found in
       let up = ascending-filter _ (passes tests params) (db tree) table in
       let strict = ascending-map (λ x y. output_cmp q x y ≡ Less) shows_of found (ascending_weaker (λ x y. value_cmp (rowid x) (rowid y) ≡ Less) (λ x y. output_cmp q (shows_of x) (shows_of y) ≡ Less) rises_so found up) in
-      let ordered = sorted_unique (output_cmp q) (output_cmp_total q) (map shows_of found) a.ordered strict (subst (λ k. IsPermutation k a.ordered) kept a.same) a.sorted in
+      let ordered = sorted_unique (output_cmp q) (output_cmp_total q) (map shows_of found) a.ordered strict (subst (λ k. IsPermutation k a.ordered) preserved a.same) a.sorted in
       a.shown ∙ ap (λ xs. page q params (map (λ (p : Output). p.1) xs)) ordered ∙ map-map (λ (p : Output). p.1) shows_of found
 
 -- what the rows that pass mean, where a row passes exactly where its record does
@@ -137,12 +137,12 @@ found_records {A} it chooses test same (row ∷ rows) was h =
     subst (λ l. all_meanings it.means (map (columns_of it) (if chooses row then row ∷ filter chooses rows else filter chooses rows)) ≡ Some (filter test l)) (sym each.4)
     (go (chooses row) (test each.0) (same row each.0 each.2) (filter chooses rows) (filter test each.1) each.0 each.2 later)
   where
-    go : (a b : Bool) → a ≡ b → (left : List Row) (kept : List A) (x : A) → it.means (columns_of it row) ≡ Some x → all_meanings it.means (map (columns_of it) left) ≡ Some kept
-        → all_meanings it.means (map (columns_of it) (if a then row ∷ left else left)) ≡ Some (if b then x ∷ kept else kept)
-    go true true e left kept x means later = rw (means, later) refl
-    go true false e left kept x means later = absurd cc
-    go false true e left kept x means later = absurd cc
-    go false false e left kept x means later = later
+    go : (a b : Bool) → a ≡ b → (left : List Row) (those : List A) (x : A) → it.means (columns_of it row) ≡ Some x → all_meanings it.means (map (columns_of it) left) ≡ Some those
+        → all_meanings it.means (map (columns_of it) (if a then row ∷ left else left)) ≡ Some (if b then x ∷ those else those)
+    go true true e left those x means later = rw (means, later) refl
+    go true false e left those x means later = absurd cc
+    go false true e left those x means later = absurd cc
+    go false false e left those x means later = later
 
 -- a query with parameters that shows all columns of the rows that pass
 pub finds : {A V : Type 0} (layout : Layout) (items : V → List Row) (it : TableOf A) (tests project : List Term) (names : List (List ℕ)) (sql : List ℕ) (params : Row) (test : A → Bool)

@@ -40,8 +40,8 @@ from_any p q r (x ∷ xs) next some all = elim (cases_Bool (p x)) [
   | inr fails ↦ from_any p q r xs next (subst (λ b. (b || list_any p xs) ≡ true) fails some) (second_so (q x) (list_all q xs) all)
 ]
 
-kept_below : (n k : ℕ) → nat_le n k ≡ true → k < 2 ^ 63 → fits_row n ≡ true
-kept_below n k h small = grind (arith, nat_tests)
+fits_below : (n k : ℕ) → nat_le n k ≡ true → k < 2 ^ 63 → fits_row n ≡ true
+fits_below n k h small = grind (arith, nat_tests)
 
 same_number : (m n : ℕ) → (m == n) ≡ true → fits_row m ≡ true → fits_row n ≡ true
 same_number m n h k = let same : m ≡ n = grind (arith, nat_tests) in subst (λ l. fits_row l ≡ true) same k
@@ -64,8 +64,8 @@ few_sessions = omega arith
 holding : (row : RegisterRow) → is_holding row ≡ true → (fits_row row.shares && fits_row row.paid) ≡ true
 holding row h =
     let shares = first_so (nat_le 1 row.shares && nat_le row.shares MOST_PLACES) (nat_le row.paid MOST_PENCE) h in
-    both_true (fits_row row.shares) (fits_row row.paid) (kept_below row.shares MOST_PLACES (second_so (nat_le 1 row.shares) (nat_le row.shares MOST_PLACES) shares) few_places)
-    (kept_below row.paid MOST_PENCE (second_so (nat_le 1 row.shares && nat_le row.shares MOST_PLACES) (nat_le row.paid MOST_PENCE) h) few_pence)
+    both_true (fits_row row.shares) (fits_row row.paid) (fits_below row.shares MOST_PLACES (second_so (nat_le 1 row.shares) (nat_le row.shares MOST_PLACES) shares) few_places)
+    (fits_below row.paid MOST_PENCE (second_so (nat_le 1 row.shares && nat_le row.shares MOST_PLACES) (nat_le row.paid MOST_PENCE) h) few_pence)
 
 rows_of : (loaded : Bool) (rows : List RegisterRow) → cond loaded (is_register rows) (no_rows rows) ≡ true → list_all (λ (row : RegisterRow). fits_row row.shares && fits_row row.paid) rows ≡ true
 rows_of true rows h =
@@ -79,10 +79,10 @@ resolution : (resolutions n : ℕ) → nat_le resolutions MOST_RESOLUTIONS ≡ t
 resolution resolutions n few h =
     let up : nat_le n resolutions ≡ true = second_so (nat_le 1 n) (nat_le n resolutions) h in
     let both : nat_le n MOST_RESOLUTIONS ≡ true = grind (arith, nat_tests) in
-    kept_below n MOST_RESOLUTIONS both few_resolutions
+    fits_below n MOST_RESOLUTIONS both few_resolutions
 
 below_few : (n most : ℕ) → nat_le n most ≡ true → nat_le most MOST_SESSIONS ≡ true → fits_row n ≡ true
-below_few n most h few = let both : nat_le n MOST_SESSIONS ≡ true = grind (arith, nat_tests) in kept_below n MOST_SESSIONS both few_sessions
+below_few n most h few = let both : nat_le n MOST_SESSIONS ≡ true = grind (arith, nat_tests) in fits_below n MOST_SESSIONS both few_sessions
 
 session : (m : Meeting) (s : ℕ) → nat_le (last_number m) MOST_SESSIONS ≡ true → is_session m s ≡ true → fits_row s ≡ true
 session m s few h = below_few s (last_number m) (second_so (nat_le 1 s) (nat_le s (last_number m)) h) few
@@ -110,10 +110,10 @@ figures t h =
     let a : nat_le t.votes_for MOST_PLACES ≡ true = grind (arith, nat_tests) in
     let b : nat_le t.votes_against MOST_PLACES ≡ true = grind (arith, nat_tests) in
     let c : nat_le t.withheld MOST_PLACES ≡ true = grind (arith, nat_tests) in
-    let p = kept_below t.votes_for MOST_PLACES a few_places in
-    let q = kept_below t.votes_against MOST_PLACES b few_places in
-    let r = kept_below t.withheld MOST_PLACES c few_places in
-    let s = kept_below t.eligible MOST_PLACES shares few_places in
+    let p = fits_below t.votes_for MOST_PLACES a few_places in
+    let q = fits_below t.votes_against MOST_PLACES b few_places in
+    let r = fits_below t.withheld MOST_PLACES c few_places in
+    let s = fits_below t.eligible MOST_PLACES shares few_places in
     rw (p, q, r, s) refl
 
 declared : (t : Option Tally) → is_declared_right t ≡ true → tally_fits t ≡ true
@@ -136,25 +136,25 @@ polls_are : (m : Meeting) (ps : List Poll) → nat_le (length m.resolutions) MOS
 polls_are m ps few some h =
     all_so (is_poll m) (λ (p : Poll). fits_row p.session && fits_row p.resolution && tally_fits p.declared) ps (poll m few some) (first_so (list_all (is_poll m) ps) (ascends_by poll_before ps) h)
 
-pub offices_are_kept : OfficesFit
-offices_are_kept m h =
+pub offices_fit : OfficesFit
+offices_fit m h =
     let f = meeting_facts m h in
     let n = length m.meeting.resolutions in
     let few : nat_le n MOST_RESOLUTIONS ≡ true = second_so (nat_le 1 n) (nat_le n MOST_RESOLUTIONS) f.resolutions in
-    let given = all_so (is_appointment n) (λ (a : Appointment). fits_row a.number) m.appointments (λ a is. kept_below a.number MOST_APPOINTMENTS (first_so (nat_le a.number MOST_APPOINTMENTS) (length a.instructions == n) is) few_appointments)
+    let given = all_so (is_appointment n) (λ (a : Appointment). fits_row a.number) m.appointments (λ a is. fits_below a.number MOST_APPOINTMENTS (first_so (nat_le a.number MOST_APPOINTMENTS) (length a.instructions == n) is) few_appointments)
     (second_so (are_numbered_after [] m.appointments) (list_all (is_appointment n) m.appointments) f.appointments) in
     let some : nat_le (last_number m.meeting) MOST_SESSIONS ≡ true = first_so (nat_le (last_number m.meeting) MOST_SESSIONS) _ f.sessions in
     let held = polls_are m.meeting m.polls few some f.polls in
     let ended = first_so (list_all (λ e. list_any (is_ending_of e) m.appointments) m.endings) (differ_by same_ending m.endings) f.endings in
     let cast_each = first_so (list_all (λ c. list_any (is_cast_on c) m.polls) m.casts) _ f.casts in
     record {
-      resolutions = kept_below n MOST_RESOLUTIONS few few_resolutions;
+      resolutions = fits_below n MOST_RESOLUTIONS few few_resolutions;
       register = rows_of m.meeting.loaded m.register (first_so (cond m.meeting.loaded (is_register m.register) (no_rows m.register)) (implies (is_opened m.meeting.first) m.meeting.loaded) f.loaded);
       appointments = given;
       endings = all_so (λ e. list_any (is_ending_of e) m.appointments) (λ (e : Ending). fits_row e.number) m.endings
-          (λ e on. from_any (is_ending_of e) (λ (a : Appointment). fits_row a.number) (fits_row e.number) m.appointments (λ a is kept. same_number a.number e.number (second_so (same_name a.member e.member) (a.number == e.number) is) kept) on given)
+          (λ e on. from_any (is_ending_of e) (λ (a : Appointment). fits_row a.number) (fits_row e.number) m.appointments (λ a is preserved. same_number a.number e.number (second_so (same_name a.member e.member) (a.number == e.number) is) preserved) on given)
           ended;
-      sessions = kept_below (last_number m.meeting) MOST_SESSIONS some few_sessions;
+      sessions = fits_below (last_number m.meeting) MOST_SESSIONS some few_sessions;
       presences = all_so (λ (p : PresenceMark). is_session m.meeting p.session) (λ (p : PresenceMark). fits_row p.session) m.presences (λ p is. session m.meeting p.session some is)
           (first_so (list_all (λ (p : PresenceMark). is_session m.meeting p.session) m.presences) (differ_by same_presence m.presences) f.presences);
       demands = all_so (is_demand m.meeting) (λ (d : DemandMark). fits_row d.session && fits_row d.resolution) m.demands
@@ -163,6 +163,6 @@ offices_are_kept m h =
       polls = held;
       casts = all_so (λ c. list_any (is_cast_on c) m.polls) (λ (c : CastMark). fits_row c.resolution) m.casts
           (λ c on. from_any (is_cast_on c) (λ (p : Poll). fits_row p.session && fits_row p.resolution && tally_fits p.declared) (fits_row c.resolution) m.polls
-          (λ p is kept. same_number p.resolution c.resolution (first_so (p.resolution == c.resolution) (is_some p.started) is) (second_so (fits_row p.session) (fits_row p.resolution) (first_so (fits_row p.session && fits_row p.resolution) (tally_fits p.declared) kept))) on held)
+          (λ p is preserved. same_number p.resolution c.resolution (first_so (p.resolution == c.resolution) (is_some p.started) is) (second_so (fits_row p.session) (fits_row p.resolution) (first_so (fits_row p.session && fits_row p.resolution) (tally_fits p.declared) preserved))) on held)
           cast_each;
     }

@@ -69,22 +69,22 @@ truth_is true = refl
 truth_is false = refl
 
 -- a row is chosen by a meeting's name exactly where it names that meeting
-pub names_tell : (v : Value) (s m n : List ℕ) → parsed_of meeting_of v ≡ Some m → meeting_of s ≡ Some n → is_true (binary (Compare Eq Binary) v (Text s)) ≡ same_name m n
+pub names_decide : (v : Value) (s m n : List ℕ) → parsed_of meeting_of v ≡ Some m → meeting_of s ≡ Some n → is_true (binary (Compare Eq Binary) v (Text s)) ≡ same_name m n
 unfolding binary
-names_tell (Text t) s m n h k = truth_is (is_eq (value_cmp (Text t) (Text s))) ∙ text_test t s (value_cmp (Text t) (Text s)) (value_cmp-Text t s) ∙ same_letters 16 is_name is_name_letter refl letters_of_name t s m n h k
-names_tell Null s m n h k = absurd cc
-names_tell (Int z) s m n h k = absurd cc
-names_tell (Real x) s m n h k = absurd cc
-names_tell (Blob b) s m n h k = absurd cc
+names_decide (Text t) s m n h k = truth_is (is_eq (value_cmp (Text t) (Text s))) ∙ text_test t s (value_cmp (Text t) (Text s)) (value_cmp-Text t s) ∙ same_letters 16 is_name is_name_letter refl letters_of_name t s m n h k
+names_decide Null s m n h k = absurd cc
+names_decide (Int z) s m n h k = absurd cc
+names_decide (Real x) s m n h k = absurd cc
+names_decide (Blob b) s m n h k = absurd cc
 
 -- a row is chosen by a key exactly where it has that key, whole
-pub keys_tell : (v : Value) (s m n : List ℕ) → parsed_of key_of v ≡ Some m → key_of s ≡ Some n → is_true (binary (Compare Eq Binary) v (Text s)) ≡ same_name m n
+pub keys_decide : (v : Value) (s m n : List ℕ) → parsed_of key_of v ≡ Some m → key_of s ≡ Some n → is_true (binary (Compare Eq Binary) v (Text s)) ≡ same_name m n
 unfolding binary
-keys_tell (Text t) s m n h k = truth_is (is_eq (value_cmp (Text t) (Text s))) ∙ text_test t s (value_cmp (Text t) (Text s)) (value_cmp-Text t s) ∙ same_letters 64 is_key is_key_letter refl letters_of_key t s m n h k
-keys_tell Null s m n h k = absurd cc
-keys_tell (Int z) s m n h k = absurd cc
-keys_tell (Real x) s m n h k = absurd cc
-keys_tell (Blob b) s m n h k = absurd cc
+keys_decide (Text t) s m n h k = truth_is (is_eq (value_cmp (Text t) (Text s))) ∙ text_test t s (value_cmp (Text t) (Text s)) (value_cmp-Text t s) ∙ same_letters 64 is_key is_key_letter refl letters_of_key t s m n h k
+keys_decide Null s m n h k = absurd cc
+keys_decide (Int z) s m n h k = absurd cc
+keys_decide (Real x) s m n h k = absurd cc
+keys_decide (Blob b) s m n h k = absurd cc
 
 -- ---- numbers
 
@@ -96,45 +96,45 @@ number_test : (m n : ℕ) → is_eq (int_cmp (pos m) (pos n)) ≡ (m == n)
 number_test m n = grind (arith, ints, nat_tests)
 
 -- a row is chosen by a number exactly where it has that number
-pub numbers_tell : (v : Value) (z : ℤ) (m n : ℕ) → natural_value v ≡ Some m → natural_of z ≡ Some n → is_true (binary (Compare Eq Binary) v (Int z)) ≡ (m == n)
+pub numbers_decide : (v : Value) (z : ℤ) (m n : ℕ) → natural_value v ≡ Some m → natural_of z ≡ Some n → is_true (binary (Compare Eq Binary) v (Int z)) ≡ (m == n)
 unfolding binary
-numbers_tell (Int k) z m n h e =
+numbers_decide (Int k) z m n h e =
     truth_is (is_eq (value_cmp (Int k) (Int z))) ∙ ap is_eq (value_cmp-Int k z) ∙ subst (λ a. is_eq (int_cmp a z) ≡ (m == n)) (sym (natural_is k m h))
     (subst (λ b. is_eq (int_cmp (pos m) b) ≡ (m == n)) (sym (natural_is z n e)) (number_test m n))
-numbers_tell Null z m n h e = absurd cc
-numbers_tell (Text t) z m n h e = absurd cc
-numbers_tell (Real x) z m n h e = absurd cc
-numbers_tell (Blob b) z m n h e = absurd cc
+numbers_decide Null z m n h e = absurd cc
+numbers_decide (Text t) z m n h e = absurd cc
+numbers_decide (Real x) z m n h e = absurd cc
+numbers_decide (Blob b) z m n h e = absurd cc
 
 -- ---- what is written again reads the same
 
-pub kept_spelled : {A : Type 0} (reading : List ℕ → Option A) (v : Value) (x : A) → parsed_of reading v ≡ Some x → parsed_of reading (cast Texts v) ≡ Some x
-kept_spelled reading (Text t) x h = h
-kept_spelled reading Null x h = absurd cc
-kept_spelled reading (Int z) x h = absurd cc
-kept_spelled reading (Real y) x h = absurd cc
-kept_spelled reading (Blob b) x h = absurd cc
+pub preserved_spelled : {A : Type 0} (reading : List ℕ → Option A) (v : Value) (x : A) → parsed_of reading v ≡ Some x → parsed_of reading (cast Texts v) ≡ Some x
+preserved_spelled reading (Text t) x h = h
+preserved_spelled reading Null x h = absurd cc
+preserved_spelled reading (Int z) x h = absurd cc
+preserved_spelled reading (Real y) x h = absurd cc
+preserved_spelled reading (Blob b) x h = absurd cc
 
-pub kept_worded : {A : Type 0} (reading : List ℕ → Option A) (v : Value) (x : A) → parsed_word_of reading v ≡ Some x → parsed_word_of reading (cast Texts v) ≡ Some x
-kept_worded reading (Text t) x h = h
-kept_worded reading Null x h = absurd cc
-kept_worded reading (Int z) x h = absurd cc
-kept_worded reading (Real y) x h = absurd cc
-kept_worded reading (Blob b) x h = absurd cc
+pub preserved_worded : {A : Type 0} (reading : List ℕ → Option A) (v : Value) (x : A) → parsed_word_of reading v ≡ Some x → parsed_word_of reading (cast Texts v) ≡ Some x
+preserved_worded reading (Text t) x h = h
+preserved_worded reading Null x h = absurd cc
+preserved_worded reading (Int z) x h = absurd cc
+preserved_worded reading (Real y) x h = absurd cc
+preserved_worded reading (Blob b) x h = absurd cc
 
-pub kept_integer : {A : Type 0} (reading : ℤ → Option A) (v : Value) (x : A) → (integer_of v >>= reading) ≡ Some x → (integer_of (cast Integer v) >>= reading) ≡ Some x
-kept_integer reading (Int z) x h = subst (λ w. (integer_of w >>= reading) ≡ Some x) (sym (cast_int z)) h
-kept_integer reading Null x h = absurd cc
-kept_integer reading (Text t) x h = absurd cc
-kept_integer reading (Real y) x h = absurd cc
-kept_integer reading (Blob b) x h = absurd cc
+pub preserved_integer : {A : Type 0} (reading : ℤ → Option A) (v : Value) (x : A) → (integer_of v >>= reading) ≡ Some x → (integer_of (cast Integer v) >>= reading) ≡ Some x
+preserved_integer reading (Int z) x h = subst (λ w. (integer_of w >>= reading) ≡ Some x) (sym (cast_int z)) h
+preserved_integer reading Null x h = absurd cc
+preserved_integer reading (Text t) x h = absurd cc
+preserved_integer reading (Real y) x h = absurd cc
+preserved_integer reading (Blob b) x h = absurd cc
 
-pub kept_some_moment : (v : Value) (x : Option ℕ) → some_moment_of v ≡ Some x → some_moment_of (cast Integer v) ≡ Some x
-kept_some_moment (Int z) x h = subst (λ w. some_moment_of w ≡ Some x) (sym (cast_int z)) h
-kept_some_moment Null x h = subst (λ w. some_moment_of w ≡ Some x) (sym cast_null) h
-kept_some_moment (Text t) x h = absurd cc
-kept_some_moment (Real y) x h = absurd cc
-kept_some_moment (Blob b) x h = absurd cc
+pub preserved_some_moment : (v : Value) (x : Option ℕ) → some_moment_of v ≡ Some x → some_moment_of (cast Integer v) ≡ Some x
+preserved_some_moment (Int z) x h = subst (λ w. some_moment_of w ≡ Some x) (sym (cast_int z)) h
+preserved_some_moment Null x h = subst (λ w. some_moment_of w ≡ Some x) (sym cast_null) h
+preserved_some_moment (Text t) x h = absurd cc
+preserved_some_moment (Real y) x h = absurd cc
+preserved_some_moment (Blob b) x h = absurd cc
 
 -- ---- what is written again stays as it is
 

@@ -116,8 +116,8 @@ module _ (table : Table) (tests new : List Term) (params : Row) (keeps : (row : 
             let was = has_filtered m rows row.0 row.1 in
             let is : changed row.0 ≡ x = rw was.1 (sym (from.2 ∙ ap (λ s. cast_row table (drop 1 s)) row.2)) in
             subst (Has (map changed rows)) is (mapped_has changed rows row.0 was.0)
-        | inr kept ↦
-            let was = has_filtered (λ r. not (m r)) rows x kept in
+        | inr preserved ↦
+            let was = has_filtered (λ r. not (m r)) rows x preserved in
             let is : changed x ≡ x = go (m x) was.1 (new_row table new params x) x in
             subst (Has (map changed rows)) is (mapped_has changed rows x was.0)
       ])
@@ -173,12 +173,12 @@ module _ {layout : Layout} {schema : Schema} (apart : AreApart layout schema) (a
       let news_are : edit.news ≡ news = given_stay news (without_all db (ids_of given.0)) in
       let fresh = subst (λ l. are_fresh l news ≡ true) left (subst (λ n. are_fresh (without_all db (ids_of given.0)) n ≡ true) news_are one.1.fresh) in
       let rows = ap (λ (t : Trees). t table.tree) final ∙ one.2 table.tree numbered_so ∙ one.1.rows ∙ ap₂ put_all left news_are ∙ all_changed table tests new params keeps db given.0 up same fresh in
-      let kept = λ (number : ℕ) (is_one : IsTrue (has_table layout number)) (other : number ≢ table.tree). ap (λ (t : Trees). t number) final ∙ one.2 number is_one ∙ step apart old.now.trees one.0 edit one.1 number is_one other in
+      let preserved = λ (number : ℕ) (is_one : IsTrue (has_table layout number)) (other : number ≢ table.tree). ap (λ (t : Trees). t number) final ∙ one.2 number is_one ∙ step apart old.now.trees one.0 edit one.1 number is_one other in
       record {
         rows = rows;
-        others = kept;
+        others = preserved;
         schema = ap (λ (d : Database). d.schema) now_is ∙ sym has;
-        desk = still_desk table.tree old now was (ap (λ (d : Database). d.schema) now_is ∙ sym has) kept (subst IsRising (sym rows) (still_table table tests new params keeps db up.0 up.1, still_keyed table tests new params keeps db up.1));
+        desk = still_desk table.tree old now was (ap (λ (d : Database). d.schema) now_is ∙ sym has) preserved (subst IsRising (sym rows) (still_table table tests new params keeps db up.0 up.1, still_keyed table tests new params keeps db up.1));
         inside = w.shown.mode ∙ inside;
         sound = w.sound;
       }

@@ -46,6 +46,6 @@ flag b = Int (if b then pos 1 else pos 0)
 pub cast_flag : (b : Bool) → cast Integer (flag b) ≡ flag b
 cast_flag b = cast_int (if b then pos 1 else pos 0)
 
-pub flag_kept : (b : Bool) → (natural_value (flag b) >>= flag_of) ≡ Some b
-flag_kept true = refl
-flag_kept false = refl
+pub flag_reads_back : (b : Bool) → (natural_value (flag b) >>= flag_of) ≡ Some b
+flag_reads_back true = refl
+flag_reads_back false = refl

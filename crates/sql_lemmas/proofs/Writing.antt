@@ -49,7 +49,7 @@ pub record Inserted (layout : Layout) (schema : Schema) (table : Table) (rows : 
   pub mid : Trees
   pub put : Applies schema Enforced old.now.trees (insert_edit old.now.trees table counter rows) mid
   pub same_schema : new.now.schema ≡ schema
-  pub kept : (c : Table) → sequence schema ≡ Some c → (number : ℕ) → IsTrue (has_table layout number) → number ≢ c.tree → new.now.trees number ≡ mid number
+  pub preserved : (c : Table) → sequence schema ≡ Some c → (number : ℕ) → IsTrue (has_table layout number) → number ≢ c.tree → new.now.trees number ≡ mid number
 
 counting_table : (db : Trees) (table c : Table) (top : ℤ) (counter : Option Row) → (counting db table c top counter).table ≡ c
 counting_table db table c top None = refl
@@ -93,7 +93,7 @@ module _ {layout : Layout} {schema : Schema} (apart : AreApart layout schema) wh
           mid = one.0;
           put = one.1;
           same_schema = ap (λ (d : Database). d.schema) now;
-          kept = λ c is number of other. ap (λ (t : Trees). t number) final ∙ counted_rest task refl refl written.0 counted.0 counter.0 (fold higher (count_of counter.0) edit.news) counted.1 c is number of other ∙ one.2 number of;
+          preserved = λ c is number of other. ap (λ (t : Trees). t number) final ∙ counted_rest task refl refl written.0 counted.0 counter.0 (fold higher (count_of counter.0) edit.news) counted.1 c is number of other ∙ one.2 number of;
         },
       )
 

@@ -17,7 +17,7 @@ const TOO_BIG: Error = Error::SqliteFailure(ErrorCode::TooBig);
 /// A number as it is kept. The error is `TooBig`, exactly where the number is above 2^63 - 1, as
 /// none of an office is.
 pub fn whole(number: u64) -> Result<i64, Error>
-    ensures kept { IfOk result (λ n. natural_of n ≡ Some number) }
+    ensures reads_back { IfOk result (λ n. natural_of n ≡ Some number) }
     ensures refused { IfErr result (λ e. (e ≡ SqliteFailure TooBig) × (2 ^ 63 ≤ number)) }
 {
     whole_number(number).ok_or(TOO_BIG)
@@ -28,7 +28,7 @@ pub fn whole(number: u64) -> Result<i64, Error>
 pub fn tally(declared: Option<Tally>) -> Result<TallyColumns, Error>
     ensures refused { IfErr result
         (λ e. (e ≡ SqliteFailure TooBig) × IsSomeAnd declared HasTooHighFigure) }
-    ensures kept { IfOk result
+    ensures reads_back { IfOk result
         (λ t. declared_of (or_null Int t.votes_for) (or_null Int t.votes_against)
         (or_null Int t.withheld) (or_null Int t.eligible)
         ≡ Some declared) }

@@ -19,7 +19,7 @@ use Rattle.row_source.specs.LookUps.{register_in}
 use Rattle.sql_assemble.specs.declared.fault.LoadError.{LoadError}
 use Rattle.sql_load_public.specs.TableLookUps.{HoldsOfStoredOffice}
 use Rattle.sql_load_public.proofs.NamedMeetingLemmas.{the_same}
-use Rattle.sql_load_public.proofs.StoredOfficeLemmas.{tells_weaker}
+use Rattle.sql_load_public.proofs.StoredOfficeLemmas.{returns_weaker}
 use Rattle.sql_load_meeting.specs.MeetingParts.{AreReadFor, IsReadWith}
 
 module _ {X : Type 0} (before : MeetingLists → X) (after : MeetingLists → MeetingLists) where
@@ -43,10 +43,10 @@ module _ {S : Type 0} (g : store.Ghosts S) (a b : Held S) (r : Result (List ℕ)
     lists = is.1 ∙ ap₂ rest alone there ∙ lists m;
   })
 
-  pub rest_told : HoldsOfStoredOffice g a b r (λ office found. IsReadWith found (days office.closed) new (rest polls (meeting_at office id)))
+  pub rest_returned : HoldsOfStoredOffice g a b r (λ office found. IsReadWith found (days office.closed) new (rest polls (meeting_at office id)))
       → HoldsOfStoredOffice g a b r (λ office found. (m : MeetingLists) → meeting_at office id ≡ Some m → polls ≡ polls_alone m → AreReadFor asked office m (record { closed = found; lists = new }))
-  rest_told one = record {
-    holds = λ read office holds kept. tells_weaker _ _ r (read_for office) (one.holds read office holds kept);
+  rest_returned one = record {
+    holds = λ read office holds preserved. returns_weaker _ _ r (read_for office) (one.holds read office holds preserved);
     same = one.same;
     changes = one.changes;
   }
@@ -57,10 +57,10 @@ rows_right true rows h = elim (no_rows rows) as (λ b. (b || is_register rows) �
 rows_right false rows h = ap (λ b. b || is_register rows) h
 
 pub register_right : (office : OfficeLists) (id : List ℕ) → IsTrue (is_office office) → are_rows (register_in (meeting_named office.meetings id)) ≡ true
-register_right office id kept = go (meeting_named office.meetings id) refl
+register_right office id preserved = go (meeting_named office.meetings id) refl
   where
     go : (found : Option MeetingLists) → meeting_named office.meetings id ≡ found → are_rows (register_in found) ≡ true
     go None is = refl
     go (Some m) is =
         rows_right m.meeting.loaded m.register
-        (first_so (cond m.meeting.loaded (is_register m.register) (no_rows m.register)) (implies (is_opened m.meeting.first) m.meeting.loaded) (found_facts office id m kept is).loaded)
+        (first_so (cond m.meeting.loaded (is_register m.register) (no_rows m.register)) (implies (is_opened m.meeting.first) m.meeting.loaded) (found_facts office id m preserved is).loaded)

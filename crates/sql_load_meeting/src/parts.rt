@@ -66,11 +66,11 @@ pub fn read_polls<S: Alter>(
     ensures holds { HoldsOfStoredOffice S.Store tx.old.conn.now tx.new.conn.now result
         (λ office lists. lists ≡ option_map polls_alone (meeting_at office meeting)) }
 {
-    let Some(kept) = meeting_of(tx, alloc, meeting)? else {
+    let Some(found) = meeting_of(tx, alloc, meeting)? else {
         return Ok(None);
     };
     let polls = polls_of(tx, alloc, meeting)?;
-    Ok(Some(meeting_with(alloc, kept, polls)))
+    Ok(Some(meeting_with(alloc, found, polls)))
 }
 
 /// Reads the register of a meeting into its lists. After a fault nothing is said of them.

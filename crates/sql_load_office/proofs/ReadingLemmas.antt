@@ -53,9 +53,9 @@ module _ {S : Type 0} (g : store.Ghosts S) where
 
   pub changes_then : (a b c : Held S) → (IsRead g a b → IsUnchanged (state g a) (state g b)) → ChangesNothing g a b → ChangesNothing g b c → ChangesNothing g a c
   changes_then a b c same one two = record {
-    kept = λ read.
+    preserved = λ read.
         let first = read_first a b c two.crash read in
-        keeps_then (state g a) (state g b) (state g c) (one.kept first) (two.kept (read_second a b c (same first) read));
+        keeps_then (state g a) (state g b) (state g c) (one.preserved first) (two.preserved (read_second a b c (same first) read));
     was_open = λ clean is_open. one.was_open (omega (arith, two.crash.clean, clean)) (two.was_open clean is_open);
     crash = survives_then (state g a) (state g b) (state g c) (λ _. ⊥) (λ _. ⊥) (λ _. ⊥) (λ _ _ none. none) (λ _ _ none. none) one.crash two.crash;
   }

@@ -12,16 +12,16 @@ use Rattle.party_views.specs.Views.{meeting_at}
 use Rattle.sql_assemble.specs.declared.fault.LoadError.{LoadError}
 use Rattle.sql_load_party.specs.LookUpSteps.{KeepsStoredTables, LeavesTables, ShowsMeeting}
 use Rattle.sql_load_public.specs.TableLookUps.{HoldsOfStoredOffice, IsLookUpFailure}
-use Rattle.sql_load_public.proofs.StoredOfficeLemmas.{tells_weaker}
+use Rattle.sql_load_public.proofs.StoredOfficeLemmas.{returns_weaker}
 
 module _ {S X : Type 0} (g : store.Ghosts S) (a b : Held S) (result : Result X LoadError) where
   -- what is told of the meeting that the tables show is told of their office
-  pub of_told : (meeting : MeetingName) (P : OfficeLists → X → Type 0) (Q : Option MeetingLists → X → Type 0) → (HasCleanDisk (state g b) → (found : Option MeetingLists) → ShowsMeeting g a meeting found → MatchResult result (Q found) IsLookUpFailure)
+  pub of_returned : (meeting : MeetingName) (P : OfficeLists → X → Type 0) (Q : Option MeetingLists → X → Type 0) → (HasCleanDisk (state g b) → (found : Option MeetingLists) → ShowsMeeting g a meeting found → MatchResult result (Q found) IsLookUpFailure)
       → OnOk result (KeepsStoredTables g a b) → LeavesTables g a b → ((office : OfficeLists) (x : X) → Q (meeting_at office meeting) x → P office x) → HoldsOfStoredOffice g a b result P
-  of_told meeting P Q told kept left next = record {
+  of_returned meeting P Q returned preserved left next = record {
     holds = λ read office holds is.
-        let shows : ShowsMeeting g a meeting (meeting_at office meeting) = record { desk = read.1; office = office; holds = holds; kept = is; is = refl } in
-        tells_weaker (Q (meeting_at office meeting)) (P office) result (next office) (told read.0 (meeting_at office meeting) shows);
-    same = λ read. on_ok_weaker result (λ (keeps : KeepsStoredTables g a b). keeps.same read) kept;
+        let shows : ShowsMeeting g a meeting (meeting_at office meeting) = record { desk = read.1; office = office; holds = holds; preserved = is; is = refl } in
+        returns_weaker (Q (meeting_at office meeting)) (P office) result (next office) (returned read.0 (meeting_at office meeting) shows);
+    same = λ read. on_ok_weaker result (λ (keeps : KeepsStoredTables g a b). keeps.same read) preserved;
     changes = left.changes;
   }

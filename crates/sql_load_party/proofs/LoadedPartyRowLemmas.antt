@@ -77,20 +77,20 @@ members_apart member x y is other = elim (cases_Bool (of_member member y)) [
 ]
 
 register_rises : (office : OfficeLists) (id : List ℕ) → IsTrue (is_office office) → ascends_by member_before (register_in (meeting_named office.meetings id)) ≡ true
-register_rises office id kept = go (meeting_named office.meetings id) refl
+register_rises office id preserved = go (meeting_named office.meetings id) refl
   where
     go : (found : Option MeetingLists) → meeting_named office.meetings id ≡ found → ascends_by member_before (option_map_or (λ (m : MeetingLists). m.register) found []) ≡ true
     go None is = refl
-    go (Some m) is = register_ascends m (found_facts office id m kept is)
+    go (Some m) is = register_ascends m (found_facts office id m preserved is)
 
 -- of the rows of a register's meeting and of a member the first is the member's row
 pub row_so : (id member : List ℕ) (flat : FlatLists) (office : OfficeLists) → AreOf flat office → IsTrue (is_office office)
     → slice_get (map without_meeting (filter (λ (r : InMeeting RegisterRow). same_name r.meeting id && same_name r.item.member member) flat.register)) 0 ≡ row_of (register_in (meeting_named office.meetings id)) member
-row_so id member flat office of kept =
+row_so id member flat office of preserved =
     let rows = of_meeting id flat.register in
     let sorted = sort_by member_before rows in
     let are : sorted ≡ register_in (meeting_named office.meetings id) = list_is (list_of Register) refl flat office id of in
-    let up : ascends_by member_before sorted ≡ true = subst (λ l. ascends_by member_before l ≡ true) (sym are) (register_rises office id kept) in
+    let up : ascends_by member_before sorted ≡ true = subst (λ l. ascends_by member_before l ≡ true) (sym are) (register_rises office id preserved) in
     let differ : differ_by same_member rows ≡ true =
     sym (differ_by_key-IsPermutation nat_list_cmp_total (λ (row : RegisterRow). row.member) rows sorted (IsPermutation-sort_by member_before rows)) ∙ differs-from_ascends_by nat_list_cmp_total (λ (row : RegisterRow). row.member) sorted up in
     ap (λ l. slice_get l 0) (passing id (of_member member) flat.register) ∙ first_passing (of_member member) rows

@@ -30,7 +30,7 @@ module _ {S : Type 0} (g : store.Ghosts S) where
         office = shows.office;
         holds = subst (λ (d : Database). office_in d.trees ≡ Some shows.office) (sym same.0.now_is)
             shows.holds;
-        kept = shows.kept;
+        preserved = shows.preserved;
         is = shows.is ∙ ap (meeting_at shows.office) (sym named);
       }
 

@@ -18,7 +18,7 @@ pub record ShowsMeeting {S : Type 0} (g : store.Ghosts S) (held : Held S) (meeti
   pub desk : IsDesk (state g held)
   pub office : OfficeLists
   pub holds : office_in (state g held).now.trees ≡ Some office
-  pub kept : IsTrue (is_office office)
+  pub preserved : IsTrue (is_office office)
   pub is : found ≡ meeting_at office meeting
 
 -- nothing is committed, and what the disk returned before was as it was written if it is now

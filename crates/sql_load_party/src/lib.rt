@@ -5,5 +5,5 @@ mod look_ups;
 mod needed_rows;
 mod own_view;
 
-pub use needed_rows::{read_asked, read_rows};
+pub use needed_rows::{read_own_rows, read_own_rows_for};
 pub use own_view::read_own;

@@ -1,8 +1,8 @@
 //! Those of a party's rows in a meeting that the answer to its request reads, read from the tables.
 ghost use Rattle.std.specs.Prelude.{◌≡◌};
 ghost use Rattle.std.proofs.Common.{◌∙◌};
-ghost use Rattle.party_views.specs.RowsRead.{rows_read};
-ghost use Rattle.party_views.specs.PartyRows.{rows_in};
+ghost use Rattle.party_views.specs.RowsRead.{own_rows_read};
+ghost use Rattle.party_views.specs.PartyRows.{own_rows_in};
 ghost use Rattle.party_views.specs.Views.{meeting_at};
 ghost use Rattle.sqlite.specs.Held.{state};
 ghost use Rattle.sqlite.specs.State.{HasCleanDisk};
@@ -20,7 +20,7 @@ use desk_words::{
 };
 use party_views::{OwnRows, Reads, reads_of};
 use proxy_rules::Claim;
-use row_source::{RowSource, rows_for};
+use row_source::RowSource;
 use sql_assemble::LoadError;
 use sqlite::{Alter, Transaction};
 use std::alloc::Global;
@@ -145,7 +145,7 @@ impl<S: Alter> RowSource for InTables<'_, '_, S> {
 /// The rows of a party in a meeting; where there is none of that name, none. Of the tables it reads
 /// what names both, and of the members who named the party and of the corporations that authorised
 /// it their own.
-pub fn read_rows<S: Alter>(
+pub fn read_own_rows<S: Alter>(
     tx: &mut Transaction<'_, S>,
     alloc: Global,
     meeting: MeetingId,
@@ -153,9 +153,9 @@ pub fn read_rows<S: Alter>(
 ) -> Result<OwnRows, LoadError>
     ensures same_reference { tx.new.conn.ghost_name ≡ tx.old.conn.ghost_name }
     ensures holds { HoldsOfStoredOffice S.Store tx.old.conn.now tx.new.conn.now result
-        (λ office rows. rows ≡ rows_in (meeting_at office meeting) party) }
+        (λ office rows. rows ≡ own_rows_in (meeting_at office meeting) party) }
 {
-    rows_for(
+    row_source::read_own_rows(
         &mut InTables { alloc, tx, meeting },
         alloc,
         party,
@@ -167,7 +167,7 @@ pub fn read_rows<S: Alter>(
 /// of the others; where there is no meeting of that name, none. What the party gave, whom it
 /// authorised and in which sessions it is present are read alone where no more is asked, and a vote
 /// reads of others the member alone for whom it is cast.
-pub fn read_asked<S: Alter>(
+pub fn read_own_rows_for<S: Alter>(
     tx: &mut Transaction<'_, S>,
     alloc: Global,
     meeting: MeetingId,
@@ -177,9 +177,9 @@ pub fn read_asked<S: Alter>(
     ensures same_reference { tx.new.conn.ghost_name ≡ tx.old.conn.ghost_name }
     ensures holds { HoldsOfStoredOffice S.Store tx.old.conn.now tx.new.conn.now result
         (λ office rows. rows
-        ≡ rows_read asked.now (rows_in (meeting_at office meeting) party)) }
+        ≡ own_rows_read asked.now (own_rows_in (meeting_at office meeting) party)) }
 {
-    rows_for(
+    row_source::read_own_rows(
         &mut InTables { alloc, tx, meeting },
         alloc,
         party,

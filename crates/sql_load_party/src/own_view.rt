@@ -5,7 +5,7 @@ ghost use Rattle.party_views.specs.Views.{own_of};
 ghost use Rattle.sql_assemble.specs.declared.fault.LoadError.TheVariants.{Memory};
 ghost use Rattle.sql_load_public.specs.TableLookUps.{HoldsOfStoredOffice};
 
-use crate::needed_rows::read_rows;
+use crate::needed_rows::read_own_rows;
 use desk_words::{MeetingId, Moment, Party};
 use party_views::{OwnRows, OwnView, own_from};
 use sql_assemble::LoadError;
@@ -40,6 +40,6 @@ pub fn read_own<S: Alter>(
         (λ office own. own ≡ own_of office party meeting now) }
 {
     let public = read_public(tx, alloc, meeting)?;
-    let rows = read_rows(tx, alloc, meeting, party)?;
+    let rows = read_own_rows(tx, alloc, meeting, party)?;
     own_made(alloc, rows, &public, now)
 }

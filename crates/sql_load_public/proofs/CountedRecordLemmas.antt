@@ -49,7 +49,7 @@ use Rattle.party_views.specs.PublicRead.{meeting_read, stand_ins, unread, up_to,
 use Rattle.party_views.specs.Views.{polls_in}
 use Rattle.sql_load_public.specs.MeetingRecords.{AreOnItsResolutions, MayHave, are_on, last_number, later_in, may_have, without_meeting}
 use Rattle.sql_load_public.specs.TableLookUps.{HoldsOfStoredOffice, HoldsOrFails}
-use Rattle.sql_load_public.proofs.FoundRecordLemmas.{error_tells, says, yields_tell}
+use Rattle.sql_load_public.proofs.FoundRecordLemmas.{error_returns, says, yields_return}
 use Rattle.sql_load_public.proofs.NamedMeetingLemmas.{HoldAll, all_held, the_same}
 use Rattle.sql_load_public.proofs.PublicRecordLemmas.{IsRow, IsRowOf, no_meeting, resolutions_so}
 
@@ -61,8 +61,8 @@ module _ {V A S : Type 0} (g : store.Ghosts S) (a b : Held S) (rows_in : V → L
       → MatchResult rows (λ v. ReadAgrees any_at_all r (all_meanings table.means (rows_in v))) (λ e. r ≡ Err (fault_of_error e)) → IfOk rows (λ v. FindsLast g a b table test number (rows_in v)) → HoldsOrFails R r
   last_said was held so (Ok v) r found h =
       let last = h.0 was held in
-      says R last.0 r (so last.0 last.2) (yields_tell any_at_all r last.0 (all_meanings table.means (rows_in v)) found last.1 refl)
-  last_said was held so (Err e) r found h = subst (HoldsOrFails R) (sym found) (error_tells R e)
+      says R last.0 r (so last.0 last.2) (yields_return any_at_all r last.0 (all_meanings table.means (rows_in v)) found last.1 refl)
+  last_said was held so (Err e) r found h = subst (HoldsOrFails R) (sym found) (error_returns R e)
 
 module _ {V A S : Type 0} (g : store.Ghosts S) (a b : Held S) (rows_in : V → List Row) (table : TableOf A) (test : A → Bool) (number : A → ℕ) where
   last_same : (rows : Result V Error) (r : Result (List A) LoadError) → MatchResult rows (λ v. ReadAgrees any_at_all r (all_meanings table.means (rows_in v))) (λ e. r ≡ Err (fault_of_error e))
@@ -79,7 +79,7 @@ module _ {V A S : Type 0} (g : store.Ghosts S) (a b : Held S) (rows_in : V → L
     (r : Result (List A) LoadError) (found : MatchResult rows (λ v. ReadAgrees any_at_all r (all_meanings table.means (rows_in v))) (λ e. r ≡ Err (fault_of_error e))) where
   pub last_holds : (R : OfficeLists → List A → Type 0) → ((flat : FlatLists) (office : OfficeLists) → AreOf flat office → (last : List A) → IsLastOf number (filter test (all flat)) last → R office last) → HoldsOfStoredOffice g a b r R
   last_holds R so = record {
-    holds = λ read office holds kept.
+    holds = λ read office holds preserved.
         let flat = bound (flat_in (state g a).now.trees) office_of_records office holds in
         last_said g a b rows_in table test number (R office) (all flat.0) (held (state g a).now.trees flat.0 (all_held (state g a).now.trees flat.0 flat.1)) (so flat.0 office (are_of flat.0 office flat.2)) rows r found (finds read);
     same = λ read. last_same g a b rows_in table test number rows r found (finds read);
@@ -168,11 +168,11 @@ count_so id flat office of last is m found = last_counts (filter (λ (it : Store
 
 -- the meeting of that name, if there is one, with so many resolutions that it may have in place of its own
 abbrev pub IsUnread : List ℕ → ℕ → OfficeLists → Option Meeting → Type 0
-IsUnread id count office kept = MayHave (meeting_named office.meetings id) count → kept ≡ option_map (with_unread count) (option_map (λ (m : MeetingLists). m.meeting) (meeting_named office.meetings id))
+IsUnread id count office preserved = MayHave (meeting_named office.meetings id) count → preserved ≡ option_map (with_unread count) (option_map (λ (m : MeetingLists). m.meeting) (meeting_named office.meetings id))
 
 -- the meeting of that name, if there is one, its resolutions as the answer to a request asks for them
 abbrev pub IsReadFor : List ℕ → PartyRequest → OfficeLists → Option Meeting → Type 0
-IsReadFor id asked office kept = kept ≡ option_map (meeting_read asked) (option_map (λ (m : MeetingLists). m.meeting) (meeting_named office.meetings id))
+IsReadFor id asked office preserved = preserved ≡ option_map (meeting_read asked) (option_map (λ (m : MeetingLists). m.meeting) (meeting_named office.meetings id))
 
 -- the row with the further sessions and so many resolutions is the meeting with these in place of its own
 pub unread_so : (id : List ℕ) (office : OfficeLists) (meetings : List MeetingRow) (row : MeetingRow) → Some row ≡ slice_get meetings 0 → IsRow id office meetings
@@ -218,15 +218,15 @@ read_by asked count None is = refl
 read_by asked count (Some m) is = ap (λ n. Some (with_unread n m.meeting)) (is m refl)
 
 -- where the resolutions were counted
-pub counted_read : (id : List ℕ) (asked : PartyRequest) (office : OfficeLists) → IsTrue (is_office office) → (count made : ℕ) → made ≡ stand_ins asked count → (kept : Option Meeting) → IsUnread id made office kept → HasCount id office count → IsReadFor id asked office kept
-counted_read id asked office holds count made made_is kept is has =
+pub counted_read : (id : List ℕ) (asked : PartyRequest) (office : OfficeLists) → IsTrue (is_office office) → (count made : ℕ) → made ≡ stand_ins asked count → (preserved : Option Meeting) → IsUnread id made office preserved → HasCount id office count → IsReadFor id asked office preserved
+counted_read id asked office holds count made made_is preserved is has =
     is (λ m found. ap may_have made_is ∙ ap (λ n. may_have (stand_ins asked n)) (has m found) ∙ few_stand_in asked (length m.meeting.resolutions) (found_facts office id m holds found).resolutions)
     ∙ read_by asked made (meeting_named office.meetings id) (λ m found. made_is ∙ ap (stand_ins asked) (has m found))
 
 -- and where the polls tell
 pub polled_read : (id : List ℕ) (asked : PartyRequest) (office : OfficeLists) (polls : List Poll) (count : ℕ) → may_have count ≡ true → ((all : ℕ) → are_on all polls ≡ true → count ≡ stand_ins asked all)
-    → (kept : Option Meeting) → IsUnread id count office kept → AreOnItsResolutions (meeting_named office.meetings id) polls → IsReadFor id asked office kept
-polled_read id asked office polls count few known kept is on = is (λ m found. few) ∙ read_by asked count (meeting_named office.meetings id) (λ m found. known (length m.meeting.resolutions) (on m found))
+    → (preserved : Option Meeting) → IsUnread id count office preserved → AreOnItsResolutions (meeting_named office.meetings id) polls → IsReadFor id asked office preserved
+polled_read id asked office polls count few known preserved is on = is (λ m found. few) ∙ read_by asked count (meeting_named office.meetings id) (λ m found. known (length m.meeting.resolutions) (on m found))
 
 -- what is found passes the test
 found_is : {X : Type 0} (p : X → Bool) (xs : List X) (x : X) → find p xs ≡ Some x → p x ≡ true

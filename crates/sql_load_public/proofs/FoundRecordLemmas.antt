@@ -27,56 +27,56 @@ use Rattle.sql_assemble.specs.LoadResults.{ReadErrAgrees, ReadAgrees, any_at_all
 use Rattle.sql_load_public.specs.MeetingRecords.{without_meeting}
 use Rattle.sql_load_public.specs.TableLookUps.{HoldsOfStoredOffice, HoldsOrFails}
 use Rattle.sql_load_public.proofs.NamedMeetingLemmas.{HoldAll, all_held, list_is, passing, the_same}
-use Rattle.sql_load_public.proofs.StoredOfficeLemmas.{tells_fault, tells_weaker}
+use Rattle.sql_load_public.proofs.StoredOfficeLemmas.{returns_fault, returns_weaker}
 
 -- what a statement is refused for is no want of an office
-pub error_tells : {X : Type 0} (P : X → Type 0) (e : Error) → HoldsOrFails P (Err (fault_of_error e))
-error_tells P (SqliteFailure OutOfMemory) = tt
-error_tells P other = tt
+pub error_returns : {X : Type 0} (P : X → Type 0) (e : Error) → HoldsOrFails P (Err (fault_of_error e))
+error_returns P (SqliteFailure OutOfMemory) = tt
+error_returns P other = tt
 
 -- where something is said, it is never told that there is no office
-pub cause_tells : {X Y : Type 0} (P : Y → Type 0) (right : X → Bool) (e : LoadError) (said : X) (read : Option X) → read ≡ Some said → right said ≡ true → ReadErrAgrees right e read → HoldsOrFails {X = Y} P (Err e)
-cause_tells P right fault.NoOffice said read is good none = absurd (true≢false (sym good ∙ none said is))
-cause_tells P right fault.Store said read is good none = tt
-cause_tells P right fault.Memory said read is good none = tt
+pub cause_returns : {X Y : Type 0} (P : Y → Type 0) (right : X → Bool) (e : LoadError) (said : X) (read : Option X) → read ≡ Some said → right said ≡ true → ReadErrAgrees right e read → HoldsOrFails {X = Y} P (Err e)
+cause_returns P right fault.NoOffice said read is good none = absurd (true≢false (sym good ∙ none said is))
+cause_returns P right fault.Store said read is good none = tt
+cause_returns P right fault.Memory said read is good none = tt
 
 -- what is said is told, or why it is not
-pub yields_tell : {X : Type 0} (right : X → Bool) (r : Result X LoadError) (said : X) (read : Option X) → ReadAgrees right r read → read ≡ Some said → right said ≡ true → HoldsOrFails (λ x. x ≡ said) r
-yields_tell right (Ok x) said read h is good = the_same (sym h ∙ is)
-yields_tell right (Err e) said read h is good = cause_tells (λ x. x ≡ said) right e said read is good h
+pub yields_return : {X : Type 0} (right : X → Bool) (r : Result X LoadError) (said : X) (read : Option X) → ReadAgrees right r read → read ≡ Some said → right said ≡ true → HoldsOrFails (λ x. x ≡ said) r
+yields_return right (Ok x) said read h is good = the_same (sym h ∙ is)
+yields_return right (Err e) said read h is good = cause_returns (λ x. x ≡ said) right e said read is good h
 
 module _ {V A : Type 0} (rows_in : V → List Row) (means : Row → Option A) (rows : Result V Error) (r : Result (List A) LoadError)
     (found : MatchResult rows (λ v. ReadAgrees any_at_all r (all_meanings means (rows_in v))) (λ e. r ≡ Err (fault_of_error e))) where
-  rows_tell : (said : List A) → IfOk rows (λ v. all_meanings means (rows_in v) ≡ Some said) → HoldsOrFails (λ l. l ≡ said) r
-  rows_tell said = go rows found
+  rows_return : (said : List A) → IfOk rows (λ v. all_meanings means (rows_in v) ≡ Some said) → HoldsOrFails (λ l. l ≡ said) r
+  rows_return said = go rows found
     where
       go : (q : Result V Error) → MatchResult q (λ v. ReadAgrees any_at_all r (all_meanings means (rows_in v))) (λ e. r ≡ Err (fault_of_error e)) → IfOk q (λ v. all_meanings means (rows_in v) ≡ Some said) → HoldsOrFails (λ l. l ≡ said) r
-      go (Ok v) h is = yields_tell any_at_all r said (all_meanings means (rows_in v)) h is refl
-      go (Err e) h is = subst (HoldsOrFails (λ l. l ≡ said)) (sym h) (error_tells (λ l. l ≡ said) e)
+      go (Ok v) h is = yields_return any_at_all r said (all_meanings means (rows_in v)) h is refl
+      go (Err e) h is = subst (HoldsOrFails (λ l. l ≡ said)) (sym h) (error_returns (λ l. l ≡ said) e)
 
   -- what holds where there are rows holds where there are records
   rows_on : (W : Type 0) → OnOk rows W → OnOk r W
   rows_on W = go rows found
     where
-      told : (q : Result (List A) LoadError) → W → OnOk q W
-      told (Ok x) w = w
-      told (Err e) w = tt
+      returned : (q : Result (List A) LoadError) → W → OnOk q W
+      returned (Ok x) w = w
+      returned (Err e) w = tt
 
       go : (q : Result V Error) → MatchResult q (λ v. ReadAgrees any_at_all r (all_meanings means (rows_in v))) (λ e. r ≡ Err (fault_of_error e)) → OnOk q W → OnOk r W
-      go (Ok v) h w = told r w
+      go (Ok v) h w = returned r w
       go (Err e) h w = subst (λ (q : Result (List A) LoadError). OnOk q W) (sym h) tt
 
 -- the records without their meetings
 module _ {A : Type 0} (found : Result (List (InMeeting A)) LoadError) (r : Result (List A) LoadError)
     (made : MatchResult found (λ all. MatchResult r (λ items. items ≡ map without_meeting all) (λ e. e ≡ fault.Memory)) (λ e. r ≡ Err e)) where
-  items_tell : (said : List (InMeeting A)) → HoldsOrFails (λ l. l ≡ said) found → HoldsOrFails (λ l. l ≡ map without_meeting said) r
-  items_tell said = go found r made
+  items_return : (said : List (InMeeting A)) → HoldsOrFails (λ l. l ≡ said) found → HoldsOrFails (λ l. l ≡ map without_meeting said) r
+  items_return said = go found r made
     where
       go : (f : Result (List (InMeeting A)) LoadError) (q : Result (List A) LoadError) → MatchResult f (λ all. MatchResult q (λ items. items ≡ map without_meeting all) (λ e. e ≡ fault.Memory)) (λ e. q ≡ Err e)
           → HoldsOrFails (λ l. l ≡ said) f → HoldsOrFails (λ l. l ≡ map without_meeting said) q
       go (Ok all) (Ok items) h is = h ∙ ap (map without_meeting) is
       go (Ok all) (Err e) h is = subst (λ e. HoldsOrFails (λ l. l ≡ map without_meeting said) (Err e)) (sym h) tt
-      go (Err e) q h is = subst (HoldsOrFails (λ l. l ≡ map without_meeting said)) (sym h) (tells_fault (λ l. l ≡ said) (λ l. l ≡ map without_meeting said) e is)
+      go (Err e) q h is = subst (HoldsOrFails (λ l. l ≡ map without_meeting said)) (sym h) (returns_fault (λ l. l ≡ said) (λ l. l ≡ map without_meeting said) e is)
 
   items_on : (W : Type 0) → OnOk found W → OnOk r W
   items_on W = go found r made
@@ -98,22 +98,22 @@ found_said g a b rows_in table test (Err e) was held h = tt
 
 -- what is told follows from what the records of the tables are
 pub says : {X : Type 0} (R : X → Type 0) (said : X) (r : Result X LoadError) → R said → HoldsOrFails (λ x. x ≡ said) r → HoldsOrFails R r
-says R said r holds = tells_weaker (λ x. x ≡ said) R r (λ x is. subst R (sym is) holds)
+says R said r holds = returns_weaker (λ x. x ≡ said) R r (λ x is. subst R (sym is) holds)
 
 module _ {V A S : Type 0} (g : store.Ghosts S) (a b : Held S) (rows_in : V → List Row) (table : TableOf A) (all : FlatLists → List A) (held : (trees : Trees) (flat : FlatLists) → HoldAll trees flat → records_in table trees ≡ Some (all flat))
     (test : A → Bool) (rows : Result V Error) (finds : IsRead g a b → IfOk rows (λ v. FindsRecords g a b table test (rows_in v))) (changes : ChangesNothing g a b) where
   module _ (r : Result (List A) LoadError) (found : MatchResult rows (λ v. ReadAgrees any_at_all r (all_meanings table.means (rows_in v))) (λ e. r ≡ Err (fault_of_error e))) where
     found_flat : (flat : FlatLists) → IsRead g a b → flat_in (state g a).now.trees ≡ Some flat → HoldsOrFails (λ l. l ≡ filter test (all flat)) r
     found_flat flat read is =
-        rows_tell rows_in table.means rows r found (filter test (all flat))
+        rows_return rows_in table.means rows r found (filter test (all flat))
         (found_said g a b rows_in table test rows (all flat) (held (state g a).now.trees flat (all_held (state g a).now.trees flat is)) (finds read))
 
     -- the records that were found, where what is to be told follows from the records of the tables
-    pub found_told : (R : OfficeLists → List A → Type 0) → ((flat : FlatLists) (office : OfficeLists) → AreOf flat office → IsTrue (is_office office) → R office (filter test (all flat))) → HoldsOfStoredOffice g a b r R
-    found_told R so = record {
-      holds = λ read office holds kept.
+    pub found_returned : (R : OfficeLists → List A → Type 0) → ((flat : FlatLists) (office : OfficeLists) → AreOf flat office → IsTrue (is_office office) → R office (filter test (all flat))) → HoldsOfStoredOffice g a b r R
+    found_returned R so = record {
+      holds = λ read office holds preserved.
           let flat = bound (flat_in (state g a).now.trees) office_of_records office holds in
-          says (R office) (filter test (all flat.0)) r (so flat.0 office (are_of flat.0 office flat.2) kept) (found_flat flat.0 read flat.1);
+          says (R office) (filter test (all flat.0)) r (so flat.0 office (are_of flat.0 office flat.2) preserved) (found_flat flat.0 read flat.1);
       same = λ read. rows_on rows_in table.means rows r found _ (found_changes g a b rows_in table test rows (finds read));
       changes = changes;
     }
@@ -123,12 +123,12 @@ module _ {V A S : Type 0} (g : store.Ghosts S) (a b : Held S) (rows_in : V → L
     (held : (trees : Trees) (flat : FlatLists) → HoldAll trees flat → records_in table trees ≡ Some (all flat)) (test : InMeeting A → Bool) (rows : Result V Error) (finds : IsRead g a b → IfOk rows (λ v. FindsRecords g a b table test (rows_in v))) (changes : ChangesNothing g a b)
     (found : Result (List (InMeeting A)) LoadError) (read_as : MatchResult rows (λ v. ReadAgrees any_at_all found (all_meanings table.means (rows_in v))) (λ e. found ≡ Err (fault_of_error e))) (r : Result (List A) LoadError)
     (made : MatchResult found (λ them. MatchResult r (λ items. items ≡ map without_meeting them) (λ e. e ≡ fault.Memory)) (λ e. r ≡ Err e)) where
-  pub items_told : (R : OfficeLists → List A → Type 0) → ((flat : FlatLists) (office : OfficeLists) → AreOf flat office → IsTrue (is_office office) → R office (map without_meeting (filter test (all flat)))) → HoldsOfStoredOffice g a b r R
-  items_told R so = record {
-    holds = λ read office holds kept.
+  pub items_returned : (R : OfficeLists → List A → Type 0) → ((flat : FlatLists) (office : OfficeLists) → AreOf flat office → IsTrue (is_office office) → R office (map without_meeting (filter test (all flat)))) → HoldsOfStoredOffice g a b r R
+  items_returned R so = record {
+    holds = λ read office holds preserved.
         let flat = bound (flat_in (state g a).now.trees) office_of_records office holds in
-        says (R office) (map without_meeting (filter test (all flat.0))) r (so flat.0 office (are_of flat.0 office flat.2) kept)
-        (items_tell found r made (filter test (all flat.0)) (found_flat g a b rows_in table all held test rows finds changes found read_as flat.0 read flat.1));
+        says (R office) (map without_meeting (filter test (all flat.0))) r (so flat.0 office (are_of flat.0 office flat.2) preserved)
+        (items_return found r made (filter test (all flat.0)) (found_flat g a b rows_in table all held test rows finds changes found read_as flat.0 read flat.1));
     same = λ read. items_on found r made _ (rows_on rows_in table.means rows found read_as _ (found_changes g a b rows_in table test rows (finds read)));
     changes = changes;
   }

@@ -4,7 +4,7 @@ use Rattle.std.specs.List.{list_any}
 use Rattle.std.specs.Option.{option_map_or}
 use Rattle.std.proofs.lemmas.Bool.{and_parts, cases_Bool}
 use Rattle.seq.specs.Sorting.{sort_by}
-use Rattle.seq.proofs.Kept.{none-found}
+use Rattle.seq.proofs.Filtered.{none-found}
 use Rattle.vocabulary.specs.Names.{same_name}
 use Rattle.desk_words.specs.Finding.{meeting_named}
 use Rattle.desk_words.specs.declared.office.MeetingLists.{MeetingLists}

@@ -31,18 +31,18 @@ use Rattle.sql_assemble.specs.declared.fault.LoadError.{LoadError}
 use Rattle.party_views.specs.Views.{polls_in}
 use Rattle.sql_load_public.specs.MeetingRecords.{later_in}
 use Rattle.sql_load_public.specs.TableLookUps.{HoldsOfStoredOffice, HoldsOrFails}
-use Rattle.sql_load_public.proofs.FoundRecordLemmas.{cause_tells, first_passing, says, yields_tell}
+use Rattle.sql_load_public.proofs.FoundRecordLemmas.{cause_returns, first_passing, says, yields_return}
 use Rattle.sql_load_public.proofs.NamedMeetingLemmas.{IsFoundAs, has_name, list_is, meeting_found, the_same}
 
 -- what a whole table holds, as what is told of the office
-pub reading_told : {S X : Type 0} (g : store.Ghosts S) (a b : Held S) (said : Trees → Option X) (all : FlatLists → X) (held : (trees : Trees) (flat : FlatLists) → flat_in trees ≡ Some flat → said trees ≡ Some (all flat))
+pub reading_returned : {S X : Type 0} (g : store.Ghosts S) (a b : Held S) (said : Trees → Option X) (all : FlatLists → X) (held : (trees : Trees) (flat : FlatLists) → flat_in trees ≡ Some flat → said trees ≡ Some (all flat))
     (r : Result X LoadError) → IsReading g a b any_at_all r said → (R : OfficeLists → X → Type 0)
     → ((flat : FlatLists) (office : OfficeLists) → AreOf flat office → IsTrue (is_office office) → R office (all flat)) → HoldsOfStoredOffice g a b r R
-reading_told g a b said all held r reading R so = record {
-  holds = λ read office holds kept.
+reading_returned g a b said all held r reading R so = record {
+  holds = λ read office holds preserved.
       let flat = bound (flat_in (state g a).now.trees) office_of_records office holds in
-      says (R office) (all flat.0) r (so flat.0 office (are_of flat.0 office flat.2) kept)
-      (yields_tell any_at_all r (all flat.0) (said (state g a).now.trees) (reading.holds read) (held (state g a).now.trees flat.0 flat.1) refl);
+      says (R office) (all flat.0) r (so flat.0 office (are_of flat.0 office flat.2) preserved)
+      (yields_return any_at_all r (all flat.0) (said (state g a).now.trees) (reading.holds read) (held (state g a).now.trees flat.0 flat.1) refl);
   same = reading.same;
   changes = reading.changes;
 }
@@ -73,11 +73,11 @@ AreLater id office later = later ≡ later_in (meeting_named office.meetings id)
 
 -- they are no more than there may be
 pub sessions_few : (office : OfficeLists) (id : List ℕ) → IsTrue (is_office office) → are_few (later_in (meeting_named office.meetings id)) ≡ true
-sessions_few office id kept = go (meeting_named office.meetings id) refl
+sessions_few office id preserved = go (meeting_named office.meetings id) refl
   where
     go : (found : Option MeetingLists) → meeting_named office.meetings id ≡ found → are_few (later_in found) ≡ true
     go None is = refl
-    go (Some m) is = (and_parts _ _ (found_facts office id m kept is).sessions).0
+    go (Some m) is = (and_parts _ _ (found_facts office id m preserved is).sessions).0
 
 -- the records of a meeting's resolutions are its resolutions
 abbrev pub AreResolutions : List ℕ → OfficeLists → List (Numbered Resolution) → Type 0
@@ -106,12 +106,12 @@ module _ (id : List ℕ) (office : OfficeLists) (meetings : List MeetingRow) (ro
           ap (λ s. Some (whole_meeting row s resolutions)) those ∙ ap (λ rs. Some (whole_meeting row m.meeting.later rs)) its ∙ is
 
   -- and where they are refused, it is not for want of a meeting
-  pub resolutions_tell : {X : Type 0} (P : X → Type 0) (e : LoadError) → IsTrue (is_office office) → ReadErrAgrees are_resolutions e (resolutions_own rows) → HoldsOrFails P (Err e)
-  resolutions_tell P e kept cause = go (meeting_named office.meetings id) refl its_row
+  pub resolutions_return : {X : Type 0} (P : X → Type 0) (e : LoadError) → IsTrue (is_office office) → ReadErrAgrees are_resolutions e (resolutions_own rows) → HoldsOrFails P (Err e)
+  resolutions_return P e preserved cause = go (meeting_named office.meetings id) refl its_row
     where
       go : (found : Option MeetingLists) → meeting_named office.meetings id ≡ found → IsRowOf found (Some row) → HoldsOrFails P (Err e)
       go None is none = absurd cc
-      go (Some m) is its = cause_tells P are_resolutions _ m.meeting.resolutions (resolutions_own rows) (are m is) (found_facts office id m kept is).resolutions cause
+      go (Some m) is its = cause_returns P are_resolutions _ m.meeting.resolutions (resolutions_own rows) (are m is) (found_facts office id m preserved is).resolutions cause
 
 -- no row is no meeting
 pub no_meeting : (office : OfficeLists) (id : List ℕ) (meetings : List MeetingRow) → None ≡ slice_get meetings 0 → IsRow id office meetings → None ≡ option_map (λ (m : MeetingLists). m.meeting) (meeting_named office.meetings id)
@@ -131,8 +131,8 @@ polls_so id flat office of = list_is (list_of Polls) refl flat office id of ∙ 
     same (Some m) = refl
 
 pub polls_rise : (office : OfficeLists) (id : List ℕ) → IsTrue (is_office office) → ascends_by poll_before (polls_in (meeting_named office.meetings id)) ≡ true
-polls_rise office id kept = go (meeting_named office.meetings id) refl
+polls_rise office id preserved = go (meeting_named office.meetings id) refl
   where
     go : (found : Option MeetingLists) → meeting_named office.meetings id ≡ found → ascends_by poll_before (polls_in found) ≡ true
     go None is = refl
-    go (Some m) is = polls_ascend m.meeting m.polls (found_facts office id m kept is).polls
+    go (Some m) is = polls_ascend m.meeting m.polls (found_facts office id m preserved is).polls

@@ -110,7 +110,7 @@ pub fn meeting_of<S: Alter>(
 ) -> Result<Option<Meeting>, LoadError>
     ensures same_reference { tx.new.conn.ghost_name ≡ tx.old.conn.ghost_name }
     ensures holds { HoldsOfStoredOffice S.Store tx.old.conn.now tx.new.conn.now result
-        (λ office kept. kept
+        (λ office found. found
         ≡ option_map (λ (m : MeetingLists). m.meeting) (meeting_at office meeting)) }
 {
     let rows = records_found(alloc, find::<meetings::Named, S>(tx, meeting))?;
@@ -134,7 +134,7 @@ pub fn polls_of<S: Alter>(
 ) -> Result<Listing<Poll>, LoadError>
     ensures same_reference { tx.new.conn.ghost_name ≡ tx.old.conn.ghost_name }
     ensures holds { HoldsOfStoredOffice S.Store tx.old.conn.now tx.new.conn.now result
-        (λ office kept. kept ≡ polls_in (meeting_at office meeting)) }
+        (λ office found. found ≡ polls_in (meeting_at office meeting)) }
 {
     let rows = items(
         alloc,
@@ -152,14 +152,14 @@ pub fn read_public<S: Alter>(
 ) -> Result<OwnedRecord, LoadError>
     ensures same_reference { tx.new.conn.ghost_name ≡ tx.old.conn.ghost_name }
     ensures holds { HoldsOfStoredOffice S.Store tx.old.conn.now tx.new.conn.now result
-        (λ office kept. kept ≡ public_of office meeting) }
+        (λ office found. found ≡ public_of office meeting) }
 {
     let closed = read_closed(tx, alloc)?;
-    let kept = meeting_of(tx, alloc, meeting)?;
+    let found = meeting_of(tx, alloc, meeting)?;
     let polls = polls_of(tx, alloc, meeting)?;
     Ok(OwnedRecord {
         closed,
-        meeting: kept,
+        meeting: found,
         polls,
     })
 }
@@ -199,8 +199,8 @@ fn unread_of<S: Alter>(
 ) -> Result<Option<Meeting>, LoadError>
     ensures same_reference { tx.new.conn.ghost_name ≡ tx.old.conn.ghost_name }
     ensures holds { HoldsOfStoredOffice S.Store tx.old.conn.now tx.new.conn.now result
-        (λ office kept. MayHave (meeting_at office meeting) count
-        → kept ≡ option_map (with_unread count) (public_of office meeting).meeting) }
+        (λ office found. MayHave (meeting_at office meeting) count
+        → found ≡ option_map (with_unread count) (public_of office meeting).meeting) }
 {
     let rows = records_found(alloc, find::<meetings::Named, S>(tx, meeting))?;
     let Some(row) = first(rows) else {
@@ -221,7 +221,7 @@ fn counted_for<S: Alter>(
 ) -> Result<Option<Meeting>, LoadError>
     ensures same_reference { tx.new.conn.ghost_name ≡ tx.old.conn.ghost_name }
     ensures holds { HoldsOfStoredOffice S.Store tx.old.conn.now tx.new.conn.now result
-        (λ office kept. kept
+        (λ office found. found
         ≡ option_map (meeting_read asked.now) (public_of office meeting).meeting) }
 {
     let count = count_of(tx, alloc, meeting)?;
@@ -239,8 +239,8 @@ fn meeting_for<S: Alter>(
 ) -> Result<Option<Meeting>, LoadError>
     ensures same_reference { tx.new.conn.ghost_name ≡ tx.old.conn.ghost_name }
     ensures holds { HoldsOfStoredOffice S.Store tx.old.conn.now tx.new.conn.now result
-        (λ office kept. AreOnItsResolutions (meeting_at office meeting) polls.now
-        → kept ≡ option_map (meeting_read asked.now) (public_of office meeting).meeting) }
+        (λ office found. AreOnItsResolutions (meeting_at office meeting) polls.now
+        → found ≡ option_map (meeting_read asked.now) (public_of office meeting).meeting) }
 {
     match stand_ins_by_polls(asked, polls) {
         Some(count) => unread_of(tx, alloc, meeting, count),
@@ -267,10 +267,10 @@ fn read_alone<S: Alter>(
 ) -> Result<OwnedRecord, LoadError>
     ensures same_reference { tx.new.conn.ghost_name ≡ tx.old.conn.ghost_name }
     ensures holds { HoldsOfStoredOffice S.Store tx.old.conn.now tx.new.conn.now result
-        (λ office kept. kept ≡ meeting_alone (public_of office meeting)) }
+        (λ office found. found ≡ meeting_alone (public_of office meeting)) }
 {
-    let kept = unread_of(tx, alloc, meeting, 1)?;
-    Ok(alone(alloc, kept))
+    let found = unread_of(tx, alloc, meeting, 1)?;
+    Ok(alone(alloc, found))
 }
 
 /// The public record of a meeting, its resolutions replaced by as many as the answer to a request
@@ -283,14 +283,14 @@ fn read_without_texts<S: Alter>(
 ) -> Result<OwnedRecord, LoadError>
     ensures same_reference { tx.new.conn.ghost_name ≡ tx.old.conn.ghost_name }
     ensures holds { HoldsOfStoredOffice S.Store tx.old.conn.now tx.new.conn.now result
-        (λ office kept. kept ≡ without_texts asked.now (public_of office meeting)) }
+        (λ office found. found ≡ without_texts asked.now (public_of office meeting)) }
 {
     let closed = read_closed(tx, alloc)?;
     let polls = polls_of(tx, alloc, meeting)?;
-    let kept = meeting_for(tx, alloc, meeting, asked, polls.as_slice())?;
+    let found = meeting_for(tx, alloc, meeting, asked, polls.as_slice())?;
     Ok(OwnedRecord {
         closed,
-        meeting: kept,
+        meeting: found,
         polls,
     })
 }
@@ -304,14 +304,14 @@ fn read_without_days<S: Alter>(
 ) -> Result<OwnedRecord, LoadError>
     ensures same_reference { tx.new.conn.ghost_name ≡ tx.old.conn.ghost_name }
     ensures holds { HoldsOfStoredOffice S.Store tx.old.conn.now tx.new.conn.now result
-        (λ office kept. kept
+        (λ office found. found
         ≡ record (without_texts asked.now (public_of office meeting)) { closed = [] }) }
 {
     let polls = polls_of(tx, alloc, meeting)?;
-    let kept = meeting_for(tx, alloc, meeting, asked, polls.as_slice())?;
+    let found = meeting_for(tx, alloc, meeting, asked, polls.as_slice())?;
     Ok(OwnedRecord {
         closed: Closed::from_list(DayList::empty(alloc)),
-        meeting: kept,
+        meeting: found,
         polls,
     })
 }
@@ -325,14 +325,14 @@ fn read_without_polls<S: Alter>(
 ) -> Result<OwnedRecord, LoadError>
     ensures same_reference { tx.new.conn.ghost_name ≡ tx.old.conn.ghost_name }
     ensures holds { HoldsOfStoredOffice S.Store tx.old.conn.now tx.new.conn.now result
-        (λ office kept. kept
+        (λ office found. found
         ≡ record (without_texts asked.now (public_of office meeting)) { polls = [] }) }
 {
     let closed = read_closed(tx, alloc)?;
-    let kept = counted_for(tx, alloc, meeting, asked)?;
+    let found = counted_for(tx, alloc, meeting, asked)?;
     Ok(OwnedRecord {
         closed,
-        meeting: kept,
+        meeting: found,
         polls: Listing::new(alloc),
     })
 }
@@ -348,7 +348,7 @@ fn read_for_vote<S: Alter>(
     requires { asked.now ≡ Cast new.now }
     ensures same_reference { tx.new.conn.ghost_name ≡ tx.old.conn.ghost_name }
     ensures holds { HoldsOfStoredOffice S.Store tx.old.conn.now tx.new.conn.now result
-        (λ office kept. kept ≡ vote_read new.now new.now.capacity (public_of office meeting)) }
+        (λ office found. found ≡ vote_read new.now new.now.capacity (public_of office meeting)) }
 {
     match new.capacity {
         Capacity::Proxy => read_without_texts(tx, alloc, meeting, asked),
@@ -366,7 +366,7 @@ pub fn read_public_for<S: Alter>(
 ) -> Result<OwnedRecord, LoadError>
     ensures same_reference { tx.new.conn.ghost_name ≡ tx.old.conn.ghost_name }
     ensures holds { HoldsOfStoredOffice S.Store tx.old.conn.now tx.new.conn.now result
-        (λ office kept. kept ≡ public_read asked.now (public_of office meeting)) }
+        (λ office found. found ≡ public_read asked.now (public_of office meeting)) }
 {
     match asked {
         PartyRequest::Notice => read_public(tx, alloc, meeting),

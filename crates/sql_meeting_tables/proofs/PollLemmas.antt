@@ -38,7 +38,7 @@ use Rattle.sql_rows.specs.declared.stored_records.InMeeting.{InMeeting}
 use Rattle.vocabulary.specs.OptionSteps.{◌>>=◌}
 use Rattle.sql_lemmas.proofs.Seq.{is_its_id}
 use Rattle.sql_rows.proofs.RowMeaningLemmas.{bound, option_ap}
-use Rattle.sql_lemmas.proofs.Tests.{names_tell, numbers_tell, kept_spelled, kept_integer, kept_some_moment, declared_stays, integer_stays, number_stays, some_moment_stays, text_stays}
+use Rattle.sql_lemmas.proofs.Tests.{names_decide, numbers_decide, preserved_spelled, preserved_integer, preserved_some_moment, declared_stays, integer_stays, number_stays, some_moment_stays, text_stays}
 use Rattle.std.proofs.Math.Bool.{and-true}
 use Rattle.sql_lemmas.proofs.Updating.{new_row, changes_rows, sets}
 use Rattle.sql_lemmas.proofs.Values.{cast_int}
@@ -121,7 +121,7 @@ whole_row cells x p =
     rw (p.meeting, p.session, p.resolution, p.ordered, p.taken, p.chair, p.started, p.closed, p.declared) refl
 
 -- the columns of a row that is written again
-record IsKeptRow (cells : Row) (x : InMeeting Poll) : Type 0 where
+record IsPreservedRow (cells : Row) (x : InMeeting Poll) : Type 0 where
   meeting : parsed_of meeting_of (cast Texts (column cells 1)) ≡ Some x.meeting
   session : natural_value (cast Integer (column cells 2)) ≡ Some x.item.session
   resolution : natural_value (cast Integer (column cells 3)) ≡ Some x.item.resolution
@@ -132,21 +132,21 @@ record IsKeptRow (cells : Row) (x : InMeeting Poll) : Type 0 where
   closed : some_moment_of (cast Integer (column cells 8)) ≡ Some x.item.closed
   declared : declared_of (cast Integer (column cells 9)) (cast Integer (column cells 10)) (cast Integer (column cells 11)) (cast Integer (column cells 12)) ≡ Some x.item.declared
 
-kept_row : (cells : Row) (x : InMeeting Poll) → polls.means (columns_of polls cells) ≡ Some x → IsKeptRow cells x
+preserved_row : (cells : Row) (x : InMeeting Poll) → polls.means (columns_of polls cells) ≡ Some x → IsPreservedRow cells x
 unfolding parsed_in moment_in flag_in number_in some_moment_in declared_in
-kept_row cells x h =
+preserved_row cells x h =
     let p = parts (columns_of polls cells) x h in
     let flag_part = bound (natural_value (column cells 6)) flag_of x.item.chair p.chair in
     let stays = declared_stays (column cells 9) (column cells 10) (column cells 11) (column cells 12) x.item.declared p.declared in
     record {
-      meeting = kept_spelled meeting_of (column cells 1) x.meeting p.meeting;
-      session = kept_integer natural_of (column cells 2) x.item.session p.session;
-      resolution = kept_integer natural_of (column cells 3) x.item.resolution p.resolution;
-      ordered = kept_integer moment_of_number (column cells 4) x.item.ordered p.ordered;
-      taken = kept_integer moment_of_number (column cells 5) x.item.take p.taken;
-      chair = rw (kept_integer natural_of (column cells 6) flag_part.0 flag_part.1) flag_part.2;
-      started = kept_some_moment (column cells 7) x.item.started p.started;
-      closed = kept_some_moment (column cells 8) x.item.closed p.closed;
+      meeting = preserved_spelled meeting_of (column cells 1) x.meeting p.meeting;
+      session = preserved_integer natural_of (column cells 2) x.item.session p.session;
+      resolution = preserved_integer natural_of (column cells 3) x.item.resolution p.resolution;
+      ordered = preserved_integer moment_of_number (column cells 4) x.item.ordered p.ordered;
+      taken = preserved_integer moment_of_number (column cells 5) x.item.take p.taken;
+      chair = rw (preserved_integer natural_of (column cells 6) flag_part.0 flag_part.1) flag_part.2;
+      started = preserved_some_moment (column cells 7) x.item.started p.started;
+      closed = preserved_some_moment (column cells 8) x.item.closed p.closed;
       declared = rw (stays.0, stays.1, stays.2, stays.3) p.declared;
     }
 
@@ -155,12 +155,12 @@ chosen_so : (name : PollName) (meeting : List ℕ) (n : ℤ) (rest : Row) → me
 unfolding parsed_in number_in
 chosen_so name meeting n rest is number cells x h =
     let p = parts (columns_of polls cells) x h in
-    ap₂ ◌&&◌ (names_tell (column cells 1) meeting x.meeting name.meeting p.meeting is) (and-true _ ∙ numbers_tell (column cells 3) n x.item.resolution name.resolution p.resolution number)
+    ap₂ ◌&&◌ (names_decide (column cells 1) meeting x.meeting name.meeting p.meeting is) (and-true _ ∙ numbers_decide (column cells 3) n x.item.resolution name.resolution p.resolution number)
 
 keeps_number : (new : List Term) (params cells : Row) → IsTrue (is_int (rowid cells)) → cast Integer (rowid cells) ≡ rowid cells
 keeps_number new params cells keyed = subst (λ v. cast Integer v ≡ v) (sym (is_its_id cells keyed)) (cast_int (id_in (rowid cells)))
 
-again : (cells : Row) (x : InMeeting Poll) → IsKeptRow cells x → (started closed a b c d : Value) (set : InMeeting Poll)
+again : (cells : Row) (x : InMeeting Poll) → IsPreservedRow cells x → (started closed a b c d : Value) (set : InMeeting Poll)
     → set ≡ record x { item = record x.item { started = set.item.started; closed = set.item.closed; declared = set.item.declared } }
     → some_moment_of started ≡ Some set.item.started → some_moment_of closed ≡ Some set.item.closed → declared_of a b c d ≡ Some set.item.declared
     → poll_in (cast Texts (column cells 1) ∷ cast Integer (column cells 2) ∷ cast Integer (column cells 3) ∷ cast Integer (column cells 4) ∷ cast Integer (column cells 5) ∷ cast Integer (column cells 6) ∷ started ∷ closed ∷ a ∷ b ∷ c ∷ d ∷ []) ≡ Some set
@@ -189,7 +189,7 @@ module _ (name : PollName) (meeting : List ℕ) (n : ℤ) (is : meeting_of meeti
       go : (a b : Bool) → a ≡ b → polls.means (columns_of polls (if a then new_row (record table { tree = 35 }) start_terms (Text meeting ∷ Int n ∷ Int z ∷ []) cells else cells))
           ≡ Some (if b then record x { item = record x.item { started = Some moment } } else x)
       go true true e =
-          let k = kept_row cells x h in
+          let k = preserved_row cells x h in
           again cells x k (cast Integer (Int z)) (cast Integer (column cells 8)) (cast Integer (column cells 9)) (cast Integer (column cells 10)) (cast Integer (column cells 11)) (cast Integer (column cells 12)) (record x { item = record x.item { started = Some moment } }) refl set_now k.closed k.declared
       go true false e = absurd cc
       go false true e = absurd cc
@@ -211,7 +211,7 @@ module _ (name : PollName) (meeting : List ℕ) (n : ℤ) (is : meeting_of meeti
       go : (a b : Bool) → a ≡ b → polls.means (columns_of polls (if a then new_row (record table { tree = 35 }) close_terms (Text meeting ∷ Int n ∷ Int z ∷ []) cells else cells))
           ≡ Some (if b then record x { item = record x.item { closed = Some moment } } else x)
       go true true e =
-          let k = kept_row cells x h in
+          let k = preserved_row cells x h in
           again cells x k (cast Integer (column cells 7)) (cast Integer (Int z)) (cast Integer (column cells 9)) (cast Integer (column cells 10)) (cast Integer (column cells 11)) (cast Integer (column cells 12)) (record x { item = record x.item { closed = Some moment } }) refl k.started set_now k.declared
       go true false e = absurd cc
       go false true e = absurd cc
@@ -236,7 +236,7 @@ module _ (name : PollName) (meeting : List ℕ) (n : ℤ) (is : meeting_of meeti
       go : (p q : Bool) → p ≡ q → polls.means (columns_of polls (if p then new_row (record table { tree = 35 }) declare_terms (figures a b c d) cells else cells))
           ≡ Some (if q then record x { item = record x.item { declared = Some tally } } else x)
       go true true e =
-          let k = kept_row cells x h in
+          let k = preserved_row cells x h in
           again cells x k (cast Integer (column cells 7)) (cast Integer (column cells 8)) (cast Integer (Int a)) (cast Integer (Int b)) (cast Integer (Int c)) (cast Integer (Int d)) (record x { item = record x.item { declared = Some tally } }) refl k.started k.closed set_now
       go true false e = absurd cc
       go false true e = absurd cc

@@ -106,13 +106,13 @@ module _ (s0 s1 s2 s3 s4 s5 s6 s7 s8 : State) (schema : s0.now.schema ≡ schema
 
   -- the old tables as they are copied
   presences_were : s1.now.trees 18 ≡ s0.now.trees 18
-  presences_were = made.kept.1.1.1.1.1.1.1.1.1.1.0
+  presences_were = made.preserved.1.1.1.1.1.1.1.1.1.1.0
 
   demands_were : s2.now.trees 20 ≡ s0.now.trees 20
-  demands_were = presences.others 20 refl (differ 20 31 refl) ∙ made.kept.1.1.1.1.1.1.1.1.1.1.1.0
+  demands_were = presences.others 20 refl (differ 20 31 refl) ∙ made.preserved.1.1.1.1.1.1.1.1.1.1.1.0
 
   polls_were : s3.now.trees 22 ≡ s0.now.trees 22
-  polls_were = demands.others 22 refl (differ 22 33 refl) ∙ presences.others 22 refl (differ 22 31 refl) ∙ made.kept.1.1.1.1.1.1.1.1.1.1.1.1.0
+  polls_were = demands.others 22 refl (differ 22 33 refl) ∙ presences.others 22 refl (differ 22 31 refl) ∙ made.preserved.1.1.1.1.1.1.1.1.1.1.1.1.0
 
   presences_copied : Copied presences_before_sessions table.presences s1.now.trees s2.now.trees
   presences_copied = presences_typed (subst (AreTyped presences_before_sessions_table) (sym presences_were) presences_are) made.empty.1.0
@@ -147,7 +147,7 @@ module _ (s0 s1 s2 s3 s4 s5 s6 s7 s8 : State) (schema : s0.now.schema ≡ schema
     -- the tables of version 1 meant the same
     pub meant : flat_one s0.now.trees ≡ Some flat
     meant =
-        let k = made.kept in
+        let k = made.preserved in
         one_held s0.now.trees flat
         (was table.keys flat.keys k.1.0 (same_of 1 refl refl refl refl refl refl refl refl) held.keys)
         (was table.closed flat.closed k.1.1.0 (same_of 4 refl refl refl refl refl refl refl refl) held.closed)

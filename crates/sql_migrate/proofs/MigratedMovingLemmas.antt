@@ -30,7 +30,7 @@ module _ {S : Type 0} (g : store.Ghosts S) where
 
   commits_then : (a b c : Held S) → CommitsNothing g a b → CommitsNothing g b c → CommitsNothing g a c
   commits_then a b c p q = record {
-    kept = λ clean. keeps_then (state g a) (state g b) (state g c) (p.kept (clean_before b c q clean)) (q.kept clean);
+    preserved = λ clean. keeps_then (state g a) (state g b) (state g c) (p.preserved (clean_before b c q clean)) (q.preserved clean);
     crash = survives_then (state g a) (state g b) (state g c) (λ _. ⊥) (λ _. ⊥) (λ _. ⊥) (λ _ _ none. none) (λ _ _ none. none) p.crash q.crash;
   }
 
@@ -75,7 +75,7 @@ module _ {S : Type 0} (g : store.Ghosts S) (a b c d e : Held S) (was : IsFirst (
   version_stays =
       empties.polls.others 0 refl (differ 0 22 refl) ∙ empties.demands.others 0 refl (differ 0 20 refl) ∙ empties.presences.others 0 refl (differ 0 18 refl)
       ∙ copies.polls.others 0 refl (differ 0 35 refl) ∙ copies.demands.others 0 refl (differ 0 33 refl) ∙ copies.presences.others 0 refl (differ 0 31 refl)
-      ∙ made.kept.0
+      ∙ made.preserved.0
 
   version_noted : IsVersionOf two (state g e)
   version_noted = noted.records (one.version ∷ []) (ap (λ (rows : List Row). all_meanings table.desk.means (map (columns_of table.desk) rows)) version_stays ∙ was.version)

@@ -9,7 +9,7 @@ use Rattle.sql_rows.specs.Meanings.{all_meanings}
 use Rattle.sql_schema.specs.Contents as table
 use Rattle.sql_schema.specs.Statements.{Changes, columns_of, has_table, layout_two, records_in}
 use Rattle.sql_model.specs.OfficeRecords.{FlatLists, are_left_empty, flat_in, flat_two}
-use Rattle.sql_model.proofs.Names.{RecordOf, TableName, all-changed, all-same, kept, number_of, same_table}
+use Rattle.sql_model.proofs.Names.{RecordOf, TableName, all-changed, all-same, stored_as, number_of, same_table}
 use Rattle.sql_model.proofs.Names.ListName.{Register, Appointments, Endings, Authorities, Presences, Demands, Polls, Casts}
 use Rattle.sql_model.proofs.Names.TableName.{Keys, Closed, Meetings, Sessions, Resolutions, Each}
 
@@ -66,7 +66,7 @@ all_held trees flat h =
 
 -- each table by its name
 abbrev HoldsOf : Trees → FlatLists → TableName → Type 0
-HoldsOf trees flat n = records_in (kept n).table trees ≡ Some ((kept n).all flat)
+HoldsOf trees flat n = records_in (stored_as n).table trees ≡ Some ((stored_as n).all flat)
 
 each_held : (trees : Trees) (flat : FlatLists) → HoldAll trees flat → (n : TableName) → HoldsOf trees flat n
 each_held trees flat h = elim [ Keys ↦ assumption | Each Register ↦ assumption | _ ↦ assumption ]
@@ -91,12 +91,12 @@ not_left : (n : TableName) → ((18 == number_of n) ≡ false) × ((20 == number
 not_left = elim [ Keys ↦ (refl, refl, refl) | Each Register ↦ (refl, refl, refl) | _ ↦ (refl, refl, refl) ]
 
 -- where what one table holds is changed, so are its records
-pub table_changed : (old new : State) (flat : FlatLists) → flat_in old.now.trees ≡ Some flat → (n : TableName) (change : List (RecordOf n) → List (RecordOf n)) → Changes (kept n).table change old new
-    → flat_in new.now.trees ≡ Some ((kept n).with_all (change ((kept n).all flat)) flat)
+pub table_changed : (old new : State) (flat : FlatLists) → flat_in old.now.trees ≡ Some flat → (n : TableName) (change : List (RecordOf n) → List (RecordOf n)) → Changes (stored_as n).table change old new
+    → flat_in new.now.trees ≡ Some ((stored_as n).with_all (change ((stored_as n).all flat)) flat)
 table_changed old new flat held n change c = flat_from new.now.trees after each still
   where
     after : FlatLists
-    after = (kept n).with_all (change ((kept n).all flat)) flat
+    after = (stored_as n).with_all (change ((stored_as n).all flat)) flat
 
     was : (m : TableName) → HoldsOf old.now.trees flat m
     was = each_held old.now.trees flat (all_held old.now.trees flat held)
@@ -108,10 +108,10 @@ table_changed old new flat held n change c = flat_from new.now.trees after each 
 
     each : (m : TableName) → HoldsOf new.now.trees after m
     each m = elim (cases_Bool (number_of m == number_of n)) [
-      | inl same ↦ subst (HoldsOf new.now.trees after) (sym (same_table m n same)) (c.records ((kept n).all flat) (was n) ∙ ap (λ l. Some l) (sym (all-changed n (change ((kept n).all flat)) flat)))
+      | inl same ↦ subst (HoldsOf new.now.trees after) (sym (same_table m n same)) (c.records ((stored_as n).all flat) (was n) ∙ ap (λ l. Some l) (sym (all-changed n (change ((stored_as n).all flat)) flat)))
       | inr apart ↦
-          ap (λ rows. all_meanings (kept m).table.means (map (columns_of (kept m).table) rows)) (c.others (number_of m) (is_one m) (differ (number_of m) (number_of n) apart))
-          ∙ was m ∙ ap (λ l. Some l) (sym (all-same m n apart (change ((kept n).all flat)) flat))
+          ap (λ rows. all_meanings (stored_as m).table.means (map (columns_of (stored_as m).table) rows)) (c.others (number_of m) (is_one m) (differ (number_of m) (number_of n) apart))
+          ∙ was m ∙ ap (λ l. Some l) (sym (all-same m n apart (change ((stored_as n).all flat)) flat))
     ]
 
 -- the keys, and the closed days, are what their tables hold

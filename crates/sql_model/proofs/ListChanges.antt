@@ -12,7 +12,7 @@ use Rattle.desk_words.specs.declared.records.Session.{Session}
 use Rattle.sql_rows.specs.declared.stored_records.InMeeting.{InMeeting}
 use Rattle.sql_rows.specs.declared.stored_records.MeetingRow.{MeetingRow}
 use Rattle.sql_model.specs.OfficeRecords.{FlatLists, of_meeting, lists_with, name_meetings, have_meetings, office_of_records, further_sessions}
-use Rattle.sql_model.proofs.Names.{ItemOf, ListName, kept_list, owned}
+use Rattle.sql_model.proofs.Names.{ItemOf, ListName, list_stored_as, owned}
 use Rattle.sql_model.proofs.Names.ListName.{Register}
 use Rattle.sql_model.proofs.ModelOfficeLemmas.{AllStand, AreOf, ChangesOne, have_all, office_changed, stands_there, with_changed}
 use Rattle.sql_model.proofs.ModelRecordLemmas.{in_meeting, of_meeting-last, of_meeting-same, stand-append, stand-own}
@@ -75,20 +75,20 @@ received k as_it_came flat id added office of differ one =
 -- ---- the lists
 
 -- where a list is changed, the meetings of all records still stand
-pub stand_with : (n : ListName) (l : List (InMeeting (ItemOf n))) (flat : FlatLists) → AllStand flat → name_meetings flat.meetings l ≡ true → AllStand ((kept_list n).with_all l flat)
+pub stand_with : (n : ListName) (l : List (InMeeting (ItemOf n))) (flat : FlatLists) → AllStand flat → name_meetings flat.meetings l ≡ true → AllStand ((list_stored_as n).with_all l flat)
 stand_with Register l flat stand one = record { sessions = stand.sessions; resolutions = stand.resolutions; lists = elim [ Register ↦ one | m ↦ stand.lists m ] }
 stand_with n l flat stand one = record { sessions = stand.sessions; resolutions = stand.resolutions; lists = elim [ Register ↦ stand.lists Register | m ↦ assumption (one, stand.lists m) ] }
 
 -- what a change of a list leaves, and where the list stands
 pub record Laws (n : ListName) : Type 0 where
-  pub meetings : (l : List (InMeeting (ItemOf n))) (flat : FlatLists) → ((kept_list n).with_all l flat).meetings ≡ flat.meetings
-  pub sessions : (l : List (InMeeting (ItemOf n))) (flat : FlatLists) → ((kept_list n).with_all l flat).sessions ≡ flat.sessions
-  pub resolutions : (l : List (InMeeting (ItemOf n))) (flat : FlatLists) → ((kept_list n).with_all l flat).resolutions ≡ flat.resolutions
-  pub keys : (l : List (InMeeting (ItemOf n))) (flat : FlatLists) → ((kept_list n).with_all l flat).keys ≡ flat.keys
-  pub closed : (l : List (InMeeting (ItemOf n))) (flat : FlatLists) → ((kept_list n).with_all l flat).closed ≡ flat.closed
-  pub lists : (l : List (InMeeting (ItemOf n))) (flat : FlatLists) (m : MeetingRow) (s : List Session) (rs : List Resolution) → lists_with ((kept_list n).with_all l flat) m s rs ≡ (owned n).with_own ((owned n).arrange (of_meeting m.id l)) (lists_with flat m s rs)
-  pub same : (flat : FlatLists) (m : MeetingRow) (s : List Session) (rs : List Resolution) → (owned n).with_own ((owned n).arrange (of_meeting m.id ((kept_list n).all flat))) (lists_with flat m s rs) ≡ lists_with flat m s rs
-  pub its_own : (flat : FlatLists) (m : MeetingRow) (s : List Session) (rs : List Resolution) → (owned n).own (lists_with flat m s rs) ≡ (owned n).arrange (of_meeting m.id ((kept_list n).all flat))
+  pub meetings : (l : List (InMeeting (ItemOf n))) (flat : FlatLists) → ((list_stored_as n).with_all l flat).meetings ≡ flat.meetings
+  pub sessions : (l : List (InMeeting (ItemOf n))) (flat : FlatLists) → ((list_stored_as n).with_all l flat).sessions ≡ flat.sessions
+  pub resolutions : (l : List (InMeeting (ItemOf n))) (flat : FlatLists) → ((list_stored_as n).with_all l flat).resolutions ≡ flat.resolutions
+  pub keys : (l : List (InMeeting (ItemOf n))) (flat : FlatLists) → ((list_stored_as n).with_all l flat).keys ≡ flat.keys
+  pub closed : (l : List (InMeeting (ItemOf n))) (flat : FlatLists) → ((list_stored_as n).with_all l flat).closed ≡ flat.closed
+  pub lists : (l : List (InMeeting (ItemOf n))) (flat : FlatLists) (m : MeetingRow) (s : List Session) (rs : List Resolution) → lists_with ((list_stored_as n).with_all l flat) m s rs ≡ (owned n).with_own ((owned n).arrange (of_meeting m.id l)) (lists_with flat m s rs)
+  pub same : (flat : FlatLists) (m : MeetingRow) (s : List Session) (rs : List Resolution) → (owned n).with_own ((owned n).arrange (of_meeting m.id ((list_stored_as n).all flat))) (lists_with flat m s rs) ≡ lists_with flat m s rs
+  pub its_own : (flat : FlatLists) (m : MeetingRow) (s : List Session) (rs : List Resolution) → (owned n).own (lists_with flat m s rs) ≡ (owned n).arrange (of_meeting m.id ((list_stored_as n).all flat))
 
 pub laws : (n : ListName) → Laws n
 laws = elim [ Register ↦ assumption | _ ↦ assumption ]
@@ -96,8 +96,8 @@ laws = elim [ Register ↦ assumption | _ ↦ assumption ]
 -- the list of a name
 abbrev pub list_of : (n : ListName) → ListOf (ItemOf n)
 list_of n = record {
-  all = (kept_list n).all;
-  with_all = (kept_list n).with_all;
+  all = (list_stored_as n).all;
+  with_all = (list_stored_as n).with_all;
   own = (owned n).own;
   with_own = (owned n).with_own;
   arrange = (owned n).arrange;
@@ -110,5 +110,5 @@ list_of n = record {
   same = (laws n).same;
   its_own = (laws n).its_own;
   stood = λ flat stand. stand.lists n;
-  stand = λ l flat stand one. have_all ((kept_list n).with_all l flat) (stand_with n l flat stand one);
+  stand = λ l flat stand one. have_all ((list_stored_as n).with_all l flat) (stand_with n l flat stand one);
 }

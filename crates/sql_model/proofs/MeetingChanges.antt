@@ -23,7 +23,7 @@ use Rattle.sql_rows.specs.declared.stored_records.MeetingRow.{MeetingRow}
 use Rattle.sql_schema.specs.Contents.{loaded_at, first_opened_at}
 use Rattle.sql_model.specs.OfficeRecords.{FlatLists, have_meetings, lists_with, office_of_records, of_meeting}
 use Rattle.sql_model.proofs.ListChanges.{all_pass, list_changed, list_of}
-use Rattle.sql_model.proofs.Names.{kept_list}
+use Rattle.sql_model.proofs.Names.{list_stored_as}
 use Rattle.sql_model.proofs.Names.ListName.{Register}
 use Rattle.sql_model.proofs.ModelOfficeLemmas.{AllStand, AreOf, are_of, have_all, office_changed, office_is, stands_there, with_changed}
 use Rattle.sql_model.proofs.ModelSessionLemmas.{has_one_session}
@@ -36,8 +36,8 @@ have_renewed flat row named stand = have_all (record flat { meetings = map row f
   sessions = stand-renewed row flat.meetings named flat.sessions ∙ stand.sessions;
   resolutions = stand-renewed row flat.meetings named flat.resolutions ∙ stand.resolutions;
   lists = elim [
-    | Register ↦ stand-renewed row flat.meetings named ((kept_list Register).all flat) ∙ stand.lists Register
-    | n ↦ stand-renewed row flat.meetings named ((kept_list n).all flat) ∙ stand.lists n
+    | Register ↦ stand-renewed row flat.meetings named ((list_stored_as Register).all flat) ∙ stand.lists Register
+    | n ↦ stand-renewed row flat.meetings named ((list_stored_as n).all flat) ∙ stand.lists n
   ];
 })
 

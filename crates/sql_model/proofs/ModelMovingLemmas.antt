@@ -158,22 +158,22 @@ stays number is a b c d = record { one = is; presences = differ number 18 a; dem
 module _ (s0 s1 s2 s3 s4 s5 s6 s7 s8 : State) (version : IsVersionOf one s0) (made : ExtendsSchema schema_one desk_schema s0 s1) (presences : Copies presences_before_sessions table.presences s1 s2) (demands : Copies demands_before_sessions table.demands s2 s3)
     (polls : Copies polls_before_sessions table.polls s3 s4) (no_presences : Empties presences_before_sessions s4 s5) (no_demands : Empties demands_before_sessions s5 s6) (no_polls : Empties polls_before_sessions s6 s7) (noted : Sets table.desk (λ _. two.version) s7 s8) where
   -- while the new tables are made, those of version 1 keep their rows
-  first_kept : (number : ℕ) → IsTrue (has_table layout_one number) → s1.now.trees number ≡ s0.now.trees number
-  first_kept = let k = made.kept in among (λ n. s1.now.trees n ≡ s0.now.trees n) layout_one.numbers (k.0, (k.1.0, (k.1.1.0, (k.1.1.1.0, (k.1.1.1.1.1.0, (k.1.1.1.1.1.1.0, (k.1.1.1.1.1.1.1.0, (k.1.1.1.1.1.1.1.1.0, (k.1.1.1.1.1.1.1.1.1.0, (k.1.1.1.1.1.1.1.1.1.1.0, (k.1.1.1.1.1.1.1.1.1.1.1.0, (k.1.1.1.1.1.1.1.1.1.1.1.1.0, (k.1.1.1.1.1.1.1.1.1.1.1.1.1.0, tt)))))))))))))
+  first_preserved : (number : ℕ) → IsTrue (has_table layout_one number) → s1.now.trees number ≡ s0.now.trees number
+  first_preserved = let k = made.preserved in among (λ n. s1.now.trees n ≡ s0.now.trees n) layout_one.numbers (k.0, (k.1.0, (k.1.1.0, (k.1.1.1.0, (k.1.1.1.1.1.0, (k.1.1.1.1.1.1.0, (k.1.1.1.1.1.1.1.0, (k.1.1.1.1.1.1.1.1.0, (k.1.1.1.1.1.1.1.1.1.0, (k.1.1.1.1.1.1.1.1.1.1.0, (k.1.1.1.1.1.1.1.1.1.1.1.0, (k.1.1.1.1.1.1.1.1.1.1.1.1.0, (k.1.1.1.1.1.1.1.1.1.1.1.1.1.0, tt)))))))))))))
 
   others_stay : (number : ℕ) → Stays number → s8.now.trees number ≡ s0.now.trees number
   others_stay number stay =
       let is = in_two number stay.one in
       noted.others number is stay.desk ∙ no_polls.others number is stay.polls ∙ no_demands.others number is stay.demands ∙ no_presences.others number is stay.presences
       ∙ polls.others number is (not_added number 35 refl stay.one) ∙ demands.others number is (not_added number 33 refl stay.one) ∙ presences.others number is (not_added number 31 refl stay.one)
-      ∙ first_kept number stay.one
+      ∙ first_preserved number stay.one
 
   -- the version is noted
   version_noted : IsVersionOf two s8
   version_noted = noted.records (one.version ∷ []) (
       same_records table.desk s0.now.trees s7.now.trees
       (no_polls.others 0 refl (differ 0 22 refl) ∙ no_demands.others 0 refl (differ 0 20 refl) ∙ no_presences.others 0 refl (differ 0 18 refl) ∙ polls.others 0 refl (differ 0 35 refl) ∙ demands.others 0 refl (differ 0 33 refl)
-      ∙ presences.others 0 refl (differ 0 31 refl) ∙ first_kept 0 refl)
+      ∙ presences.others 0 refl (differ 0 31 refl) ∙ first_preserved 0 refl)
       ∙ version
       )
 
@@ -184,13 +184,13 @@ module _ (s0 s1 s2 s3 s4 s5 s6 s7 s8 : State) (version : IsVersionOf one s0) (ma
 
   -- the old tables as they are copied
   presences_were : s1.now.trees 18 ≡ s0.now.trees 18
-  presences_were = first_kept 18 refl
+  presences_were = first_preserved 18 refl
 
   demands_were : s2.now.trees 20 ≡ s0.now.trees 20
-  demands_were = presences.others 20 refl (differ 20 31 refl) ∙ first_kept 20 refl
+  demands_were = presences.others 20 refl (differ 20 31 refl) ∙ first_preserved 20 refl
 
   polls_were : s3.now.trees 22 ≡ s0.now.trees 22
-  polls_were = demands.others 22 refl (differ 22 33 refl) ∙ presences.others 22 refl (differ 22 31 refl) ∙ first_kept 22 refl
+  polls_were = demands.others 22 refl (differ 22 33 refl) ∙ presences.others 22 refl (differ 22 31 refl) ∙ first_preserved 22 refl
 
   -- and as they are emptied
   presences_then : s4.now.trees 18 ≡ s0.now.trees 18

@@ -18,7 +18,7 @@ use Rattle.vocabulary.specs.OptionSteps.{◌>>=◌}
 use Rattle.sql_model.specs.OfficeRecords.{FlatLists, resolutions_of, further_sessions, lists_with, lists_of, lists_of_all, name_meetings, have_meetings, office_of_records}
 use Rattle.sql_model.proofs.FlatChanges.{only_is, some_is}
 use Rattle.sql_model.proofs.ModelListLemmas.{any-map, map-once}
-use Rattle.sql_model.proofs.Names.{ListName, kept_list}
+use Rattle.sql_model.proofs.Names.{ListName, list_stored_as}
 use Rattle.sql_model.proofs.Names.ListName.{Register, Appointments, Endings, Authorities, Presences, Demands, Polls, Casts}
 use Rattle.sql_model.proofs.ModelRecordLemmas.{stands}
 use Rattle.sql_rows.proofs.RowMeaningLemmas.{bound}
@@ -30,7 +30,7 @@ use Rattle.std.proofs.lemmas.Bool.{and_parts}
 pub record AllStand (flat : FlatLists) : Type 0 where
   pub sessions : name_meetings flat.meetings flat.sessions ≡ true
   pub resolutions : name_meetings flat.meetings flat.resolutions ≡ true
-  pub lists : (n : ListName) → name_meetings flat.meetings ((kept_list n).all flat) ≡ true
+  pub lists : (n : ListName) → name_meetings flat.meetings ((list_stored_as n).all flat) ≡ true
 
 pub all_stand : (flat : FlatLists) → have_meetings flat ≡ true → AllStand flat
 all_stand flat h =

@@ -43,7 +43,7 @@ ItemOf Polls = Poll
 ItemOf Casts = CastMark
 
 -- a table, and its records among those of all tables
-pub record Kept (A : Type 0) : Type 0 where
+pub record StoredAs (A : Type 0) : Type 0 where
   pub table : TableOf A
   pub all : FlatLists → List A
   pub with_all : List A → FlatLists → FlatLists
@@ -55,15 +55,15 @@ pub record Owned (A : Type 0) : Type 0 where
   pub arrange : List A → List A
 
 -- each list as its table holds it
-abbrev pub kept_list : (n : ListName) → Kept (InMeeting (ItemOf n))
-kept_list Register = record { table = table.register; all = λ f. f.register; with_all = λ l f. record f { register = l } }
-kept_list Appointments = record { table = table.appointments; all = λ f. f.appointments; with_all = λ l f. record f { appointments = l } }
-kept_list Endings = record { table = table.endings; all = λ f. f.endings; with_all = λ l f. record f { endings = l } }
-kept_list Authorities = record { table = table.authorities; all = λ f. f.authorities; with_all = λ l f. record f { authorities = l } }
-kept_list Presences = record { table = table.presences; all = λ f. f.presences; with_all = λ l f. record f { presences = l } }
-kept_list Demands = record { table = table.demands; all = λ f. f.demands; with_all = λ l f. record f { demands = l } }
-kept_list Polls = record { table = table.polls; all = λ f. f.polls; with_all = λ l f. record f { polls = l } }
-kept_list Casts = record { table = table.casts; all = λ f. f.casts; with_all = λ l f. record f { casts = l } }
+abbrev pub list_stored_as : (n : ListName) → StoredAs (InMeeting (ItemOf n))
+list_stored_as Register = record { table = table.register; all = λ f. f.register; with_all = λ l f. record f { register = l } }
+list_stored_as Appointments = record { table = table.appointments; all = λ f. f.appointments; with_all = λ l f. record f { appointments = l } }
+list_stored_as Endings = record { table = table.endings; all = λ f. f.endings; with_all = λ l f. record f { endings = l } }
+list_stored_as Authorities = record { table = table.authorities; all = λ f. f.authorities; with_all = λ l f. record f { authorities = l } }
+list_stored_as Presences = record { table = table.presences; all = λ f. f.presences; with_all = λ l f. record f { presences = l } }
+list_stored_as Demands = record { table = table.demands; all = λ f. f.demands; with_all = λ l f. record f { demands = l } }
+list_stored_as Polls = record { table = table.polls; all = λ f. f.polls; with_all = λ l f. record f { polls = l } }
+list_stored_as Casts = record { table = table.casts; all = λ f. f.casts; with_all = λ l f. record f { casts = l } }
 
 -- and as a meeting has it
 abbrev pub owned : (n : ListName) → Owned (ItemOf n)
@@ -86,19 +86,19 @@ RecordOf Resolutions = InMeeting (Numbered Resolution)
 RecordOf (Each n) = InMeeting (ItemOf n)
 
 -- each table
-abbrev pub kept : (n : TableName) → Kept (RecordOf n)
-kept Keys = record { table = table.keys; all = λ f. f.keys; with_all = λ l f. record f { keys = l } }
-kept Closed = record { table = table.closed; all = λ f. f.closed; with_all = λ l f. record f { closed = l } }
-kept Meetings = record { table = table.meetings; all = λ f. f.meetings; with_all = λ l f. record f { meetings = l } }
-kept Sessions = record { table = table.sessions; all = λ f. f.sessions; with_all = λ l f. record f { sessions = l } }
-kept Resolutions = record { table = table.resolutions; all = λ f. f.resolutions; with_all = λ l f. record f { resolutions = l } }
-kept (Each n) = kept_list n
+abbrev pub stored_as : (n : TableName) → StoredAs (RecordOf n)
+stored_as Keys = record { table = table.keys; all = λ f. f.keys; with_all = λ l f. record f { keys = l } }
+stored_as Closed = record { table = table.closed; all = λ f. f.closed; with_all = λ l f. record f { closed = l } }
+stored_as Meetings = record { table = table.meetings; all = λ f. f.meetings; with_all = λ l f. record f { meetings = l } }
+stored_as Sessions = record { table = table.sessions; all = λ f. f.sessions; with_all = λ l f. record f { sessions = l } }
+stored_as Resolutions = record { table = table.resolutions; all = λ f. f.resolutions; with_all = λ l f. record f { resolutions = l } }
+stored_as (Each n) = list_stored_as n
 
 -- ---- two tables are the same, or have other numbers
 
 -- the number of a table
 abbrev pub number_of : TableName → ℕ
-number_of n = (kept n).table.number
+number_of n = (stored_as n).table.number
 
 -- two tables are the same where their numbers are
 pub same_table : (m n : TableName) → (number_of m == number_of n) ≡ true → m ≡ n
@@ -111,11 +111,11 @@ same_table = elim [
 -- ---- what a change of the records of one table leaves
 
 -- its records are the new ones
-pub all-changed : (n : TableName) (l : List (RecordOf n)) (flat : FlatLists) → (kept n).all ((kept n).with_all l flat) ≡ l
+pub all-changed : (n : TableName) (l : List (RecordOf n)) (flat : FlatLists) → (stored_as n).all ((stored_as n).with_all l flat) ≡ l
 all-changed = elim [ Keys ↦ λ l flat. refl | Each Register ↦ λ l flat. refl | _ ↦ λ l flat. refl ]
 
 -- and those of another table stay
-pub all-same : (m n : TableName) → (number_of m == number_of n) ≡ false → (l : List (RecordOf n)) (flat : FlatLists) → (kept m).all ((kept n).with_all l flat) ≡ (kept m).all flat
+pub all-same : (m n : TableName) → (number_of m == number_of n) ≡ false → (l : List (RecordOf n)) (flat : FlatLists) → (stored_as m).all ((stored_as n).with_all l flat) ≡ (stored_as m).all flat
 all-same = elim [
   | Keys ↦ elim [ Keys ↦ λ h l flat. cc | Each Register ↦ λ h l flat. refl | _ ↦ λ h l flat. first_of (assumption, cc) ]
   | Each Register ↦ elim [ Keys ↦ λ h l flat. refl | Each Register ↦ λ h l flat. cc | _ ↦ λ h l flat. first_of (assumption, cc) ]

@@ -52,7 +52,7 @@ pub record StandsBy (edition : Edition) (s : State) (office : OfficeLists) : Typ
   pub desk : IsDeskOf edition.layout s
   pub version : IsVersionOf edition s
   pub holds : office_by edition s.now.trees ≡ Some office
-  pub kept : IsTrue (is_office office)
+  pub preserved : IsTrue (is_office office)
 
 -- what tables of the version hold is no office
 abbrev pub HasNoOfficeBy : Edition → State → Type 0

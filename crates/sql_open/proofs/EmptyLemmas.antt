@@ -32,7 +32,7 @@ noted old new empty adds =
         version = added.records [] none;
         holds = held new.now.trees (is 1 refl refl) (is 4 refl refl) (is 5 refl refl) (is 8 refl refl) (is 10 refl refl) (is 12 refl refl) (is 14 refl refl) (is 16 refl refl) (is 18 refl refl) (is 20 refl refl) (is 22 refl refl)
             (is 24 refl refl) (is 29 refl refl) (is 31 refl refl) (is 33 refl refl) (is 35 refl refl);
-        kept = refl;
+        preserved = refl;
       },
       added.schema ∙ empty.0,
       added.sound,

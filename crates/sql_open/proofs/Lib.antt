@@ -5,7 +5,7 @@ pub mod MakingLemmas
 pub mod OneSchema
 pub mod OpenedAskingLemmas
 pub mod OpenedFoundLemmas
-pub mod OpenedKeptLemmas
+pub mod OpenedPreservedLemmas
 pub mod OpenedMoveLemmas
 pub mod OpeningLemmas
 pub mod OrderedOffice

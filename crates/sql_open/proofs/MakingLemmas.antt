@@ -28,9 +28,9 @@ made_and_noted g a b c t u v one added commits = record {
       let done = one.made early inside empty.0 in
       let are = extends_empty no_schema desk_schema refl (state g a) (state g b) done.0 empty in
       noted (state g b) (state g c) are (added clean done.1 (empty_is_desk (twos_apart desk_schema twos_declared) (state g b) are twos_declared));
-  kept = λ clean.
+  preserved = λ clean.
       let early : HasCleanDisk (state g b) = omega (arith, commits.crash.clean, clean) in
-      keeps_then (state g a) (state g b) (state g c) (one.commits.kept early) (commits.kept clean);
+      keeps_then (state g a) (state g b) (state g c) (one.commits.preserved early) (commits.preserved clean);
   crash = nothing_then (state g a) (state g b) (state g c) one.commits.crash commits.crash;
 }
 

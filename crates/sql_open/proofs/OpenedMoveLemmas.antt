@@ -23,7 +23,7 @@ use Rattle.sql_open.specs.WholeDesk.{IsWhole}
 use Rattle.sql_open.specs.declared.fault.OpenFault.{OpenFault}
 use Rattle.sql_open.specs.declared.version.KnownVersion.TheVariants.{One}
 use Rattle.sql_open.proofs.OpeningLemmas.{desk_of_same, stands_same}
-use Rattle.sql_open.proofs.OpenedKeptLemmas.{made_same, moved_same, version_same}
+use Rattle.sql_open.proofs.OpenedPreservedLemmas.{made_same, moved_same, version_same}
 use Rattle.sql_open.proofs.RisingLemmas.{are_a_desk_one}
 use Rattle.sql_open.proofs.WholeLemmas.{leaves_whole, ones_made, whole_of}
 

@@ -78,17 +78,17 @@ lists_judged g a b lists (Ok t) read ordered right wrong other = record {
       let same : t ≡ lists = ordered ∙ stays in
       (read.holds is ∙ ap (λ (o : OfficeLists). Some o) (sym same), right);
   same = read.same;
-  none = λ is told. absurd cc;
+  none = λ is reported. absurd cc;
   other = other;
   changes = read.changes;
 }
 lists_judged g a b lists (Err fault) read ordered right wrong other = record {
   right = λ is. tt;
   same = λ is. tt;
-  none = λ is told office h.
+  none = λ is reported office h.
       let same : lists ≡ office = some_is (sym (read.holds is) ∙ h) in
       subst (λ (o : OfficeLists). is_office o ≡ false) same (elim (cases_Bool (is_office lists)) [
-        | inl so ↦ absurd (true≢false (sym so ∙ ap is_office (sym (office_ordered lists so)) ∙ wrong told))
+        | inl so ↦ absurd (true≢false (sym so ∙ ap is_office (sym (office_ordered lists so)) ∙ wrong reported))
         | inr not_so ↦ not_so
       ]);
   other = other;
@@ -117,5 +117,5 @@ stands_same s t office same stands = record {
   desk = desk_same s t same stands.desk;
   version = subst (λ (d : Database). IsVersion (record s { now = d })) same stands.version;
   holds = subst (λ (d : Database). office_in d.trees ≡ Some office) same stands.holds;
-  kept = stands.kept;
+  preserved = stands.preserved;
 }

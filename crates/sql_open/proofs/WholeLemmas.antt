@@ -81,7 +81,7 @@ whole_of s office stands is = record {
   declared = stands.desk.schema;
   version = stands.version;
   holds = stands.holds;
-  kept = stands.kept;
+  preserved = stands.preserved;
 }
 
 -- where a crash leaves the tables that are read, it leaves the office whole for which they stand
@@ -91,13 +91,13 @@ leaves_whole s office stands is itself = λ db may. subst (λ (t : Trees). IsWho
 -- tables that are whole are refused by no fault but the store's and want of memory
 pub no_other_fault : (fault : OpenFault) (known : KnownVersion) (s : State) (office : OfficeLists) → IsWholeAs known s.now.trees office → IsMadeAs known s.now.schema → IsOpenCause fault s → (fault ≡ Store) ⊎ (fault ≡ Memory)
 no_other_fault NotADesk known s office whole made (inl none) = absurd (above_none known (none (edition_of known).version whole.version))
-no_other_fault NotADesk known s office whole made (inr (told, is, inl missing)) =
-    let same : known ≡ told = same_version known told s whole.version is in
-    absurd (missing (columns_so told s.now.schema (subst (λ k. IsMadeAs k s.now.schema) same made)))
-no_other_fault NotADesk known s office whole made (inr (told, is, inr none)) =
-    let same : known ≡ told = same_version known told s whole.version is in
-    let there : IsWholeAs told s.now.trees office = subst (λ k. IsWholeAs k s.now.trees office) same whole in
-    absurd (true≢false (sym whole.kept ∙ none (subst (λ k. IsMadeAs k s.now.schema) same made) office there.holds))
+no_other_fault NotADesk known s office whole made (inr (reported, is, inl missing)) =
+    let same : known ≡ reported = same_version known reported s whole.version is in
+    absurd (missing (columns_so reported s.now.schema (subst (λ k. IsMadeAs k s.now.schema) same made)))
+no_other_fault NotADesk known s office whole made (inr (reported, is, inr none)) =
+    let same : known ≡ reported = same_version known reported s whole.version is in
+    let there : IsWholeAs reported s.now.trees office = subst (λ k. IsWholeAs k s.now.trees office) same whole in
+    absurd (true≢false (sym whole.preserved ∙ none (subst (λ k. IsMadeAs k s.now.schema) same made) office there.holds))
 no_other_fault NewerVersion known s office whole made (version, noted, later) =
     let both : ◌≡◌ {A = Option _} (Some (version ∷ [])) (Some ((edition_of known).version ∷ [])) = sym noted ∙ whole.version in
     let same : version ≡ (edition_of known).version = cc in
@@ -122,12 +122,12 @@ no_fault_of_whole fault s office (known, whole) live opened cause = go fault ref
     go Memory is = inr is
 
 -- tables that were whole stand for their office, where tables of its version stand for the office that they held
-pub opens_whole : (old new : State) (told : OfficeLists) → IsLive old → IsTrue old.is_open
-    → ((known : KnownVersion) → IsMadeAs known old.now.schema → IsVersionOf (edition_of known) old → StandsFor old new told known) → (office : OfficeLists) → IsWholeDesk old.now.trees office → Stands new office × LeavesWhole new office
-opens_whole old new told live is_open stands office (known, whole) =
+pub opens_whole : (old new : State) (reported : OfficeLists) → IsLive old → IsTrue old.is_open
+    → ((known : KnownVersion) → IsMadeAs known old.now.schema → IsVersionOf (edition_of known) old → StandsFor old new reported known) → (office : OfficeLists) → IsWholeDesk old.now.trees office → Stands new office × LeavesWhole new office
+opens_whole old new reported live is_open stands office (known, whole) =
     let made = made_so known old.now office whole (live is_open).0 in
     let it = stands known made whole.version in
-    let same : told ≡ office = some_is (sym it.0 ∙ whole.holds) in
+    let same : reported ≡ office = some_is (sym it.0 ∙ whole.holds) in
     (subst (Stands new) same it.1, subst (LeavesWhole new) same it.2)
 
 -- tables of version 1 that were opened stand for the office that they held

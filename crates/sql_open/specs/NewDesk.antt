@@ -22,7 +22,7 @@ pub record LeavesEmptyDesk {S T : Type 0} (g : store.Ghosts S) (old new : Held S
       × ((state g new).now.schema ≡ desk_schema)
       × IsDatabase (state g new).now
       × IsTrue (state g new).in_transaction)
-  pub kept : HasCleanDisk (state g new) → KeepsCommit (state g old) (state g new)
+  pub preserved : HasCleanDisk (state g new) → KeepsCommit (state g old) (state g new)
   pub crash : Survives (state g old) (state g new) (λ _. ⊥)
 
 -- in a database that had no table, these are the tables of a new desk

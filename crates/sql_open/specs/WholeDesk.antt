@@ -27,7 +27,7 @@ pub record IsWholeAs (known : KnownVersion) (db : Trees) (office : OfficeLists) 
   pub declared : IsMadeAs known schema
   pub version : records_in desk db ≡ Some ((edition_of known).version ∷ [])
   pub holds : office_by (edition_of known) db ≡ Some office
-  pub kept : IsTrue (is_office office)
+  pub preserved : IsTrue (is_office office)
 
 -- these tables are whole, and they are this office, in version 2, whatever stands beside them
 abbrev pub IsWhole : Trees → OfficeLists → Type 0

@@ -49,7 +49,7 @@ fn move_desk<S: Alter>(conn: &mut Connection<S>, alloc: Global) -> Result<Office
     ensures office { IfOk result (λ office. IsTrue (is_office office)) }
     ensures is_open { OnDone S.Store conn.new result (IsTrue (state S.Store conn.old).is_open
         × IsTrue (state S.Store conn.new).is_open) }
-    ensures kept { HasCleanDisk (state S.Store conn.new) → IsTrue (state S.Store conn.new).is_open
+    ensures preserved { HasCleanDisk (state S.Store conn.new) → IsTrue (state S.Store conn.new).is_open
         → OnErr result (IsTrue (state S.Store conn.old).is_open
         × ((state S.Store conn.new).now.trees ≡ (state S.Store conn.old).now.trees)) }
     ensures none { HasCleanDisk (state S.Store conn.new) → IsFirst (state S.Store conn.old)
@@ -97,7 +97,7 @@ pub(crate) fn moved_office<S: Alter>(
     ensures office { IfOk result (λ office. IsTrue (is_office office)) }
     ensures is_open { OnDone S.Store conn.new result (IsTrue (state S.Store conn.new).is_open) }
     ensures settled { OnDone S.Store conn.new result (LeavesItself (state S.Store conn.new)) }
-    ensures kept { HasCleanDisk (state S.Store conn.new) → IsTrue (state S.Store conn.new).is_open
+    ensures preserved { HasCleanDisk (state S.Store conn.new) → IsTrue (state S.Store conn.new).is_open
         → OnErr result (IsTrue (state S.Store conn.old).is_open
         × ((state S.Store conn.new).now.trees ≡ (state S.Store conn.old).now.trees)) }
     ensures cause { HasCleanDisk (state S.Store conn.new) → result ≡ Err NotADesk

@@ -56,7 +56,7 @@ fn reopened<S: Alter + Drop>(
         → RowsRise (state S.Store c)) }
     ensures fault { IfErr result (λ e. (e.0 ≢ NotADesk) × (e.0 ≢ NewerVersion)) }
     ensures cause { IfErr result (λ e. IsWhyShut S.Store conn e.0 e.1) }
-    ensures kept { IfErr result (λ e. IsClean (S.Store.view e.1)
+    ensures preserved { IfErr result (λ e. IsClean (S.Store.view e.1)
         → IsTrue (S.Store.view e.1).is_open
         → (S.Store.view e.1).trees ≡ (state S.Store conn).now.trees) }
     ensures found { IfOk result (λ c. LeavesNoMore S.Store (state S.Store conn)
@@ -111,7 +111,7 @@ fn examine<S: Alter>(conn: &mut Connection<S>, alloc: Global) -> Result<OfficeLi
     ensures ended { conn.new.in_transaction ≡ false }
     ensures crash { Survives (state S.Store conn.old) (state S.Store conn.new) (λ _. ⊥) }
     ensures was_open { WasOpen (state S.Store conn.old) (state S.Store conn.new) }
-    ensures kept { HasCleanDisk (state S.Store conn.new) → IsTrue (state S.Store conn.old).is_open
+    ensures preserved { HasCleanDisk (state S.Store conn.new) → IsTrue (state S.Store conn.old).is_open
         → IsTrue (state S.Store conn.new).is_open
         → (state S.Store conn.new).now.trees ≡ (state S.Store conn.old).now.trees }
     ensures holds { ReturnsOffice S.Store conn.old conn.new result }
@@ -189,7 +189,7 @@ fn office_as_is<S: Alter>(conn: &mut Connection<S>, alloc: Global) -> Result<Off
     ensures office { IfOk result (λ office. IsTrue (is_office office)) }
     ensures is_open { OnDone S.Store conn.new result (IsTrue (state S.Store conn.new).is_open) }
     ensures settled { OnDone S.Store conn.new result (LeavesItself (state S.Store conn.new)) }
-    ensures kept { HasCleanDisk (state S.Store conn.new) → IsTrue (state S.Store conn.new).is_open
+    ensures preserved { HasCleanDisk (state S.Store conn.new) → IsTrue (state S.Store conn.new).is_open
         → OnErr result (IsTrue (state S.Store conn.old).is_open
         × ((state S.Store conn.new).now.trees ≡ (state S.Store conn.old).now.trees)) }
     ensures cause { HasCleanDisk (state S.Store conn.new) → result ≡ Err NotADesk
@@ -223,7 +223,7 @@ fn office_stored<S: Alter>(
     ensures settled { OnOk result (IsSettled S.Store conn.new) }
     ensures cause { IfErr result (λ fault.
         IsWhyUnopened S.Store conn.old fault (back.Connection conn.new)) }
-    ensures kept { OnErr result (KeepsOpenRows S.Store conn.old conn.new) }
+    ensures preserved { OnErr result (KeepsOpenRows S.Store conn.old conn.new) }
     ensures crash { SurvivesMoving S.Store conn.old conn.new }
 {
     let _ = conn.schema();
@@ -265,7 +265,7 @@ pub fn open<S: Alter + Drop>(
     ensures office { IfOk result (λ opened. IsTrue (is_office opened.1)) }
     ensures none { IfOk result (λ opened. opened.0.in_transaction ≡ false) }
     ensures cause { IfErr result (λ e. IsWhyUnopened S.Store conn e.0 e.1) }
-    ensures kept { IfErr result (λ e. HandsBack S.Store (state S.Store conn).now.trees e.1) }
+    ensures preserved { IfErr result (λ e. HandsBack S.Store (state S.Store conn).now.trees e.1) }
     ensures ended { IfErr result (λ e. conn.in_transaction ≡ false → IsInNone e.1) }
     ensures reopening { IfErr result (λ e. ReportsReopening S.Store conn e.0 e.1) }
     ensures settled { IfOk result (λ opened. IsSettled S.Store opened.0) }
@@ -303,7 +303,7 @@ pub fn open_risen<S: Alter + Drop>(
     ensures office { IfOk result (λ opened. IsTrue (is_office opened.1)) }
     ensures ended { IfOk result (λ opened. opened.0.in_transaction ≡ false) }
     ensures cause { IfErr result (λ e. IsWhyUnopened S.Store conn e.0 (back.Connection e.1)) }
-    ensures kept { IfErr result (λ e. KeepsOpenRows S.Store conn e.1) }
+    ensures preserved { IfErr result (λ e. KeepsOpenRows S.Store conn e.1) }
     ensures back { IfErr result (λ e. e.1.in_transaction ≡ false) }
     ensures settled { IfOk result (λ opened. IsSettled S.Store opened.0) }
     ensures survives { IfOk result (λ opened. SurvivesMoving S.Store conn opened.0) }

@@ -163,9 +163,9 @@ module _ {S V A : Type 0} (g : store.Ghosts S) (a b : Held S) (items : V → Lis
       let here : overlay db [] it.number ≡ db it.number = rw q.none in
       let staged : answer.staged ≡ map (λ r. params ∷ r ∷ []) passing =
       answer.grouped ∙ each_passed (λ r. params ∷ r ∷ []) (passes q.tests params) (overlay db [] it.number) ∙ ap (λ rs. map (λ r. params ∷ r ∷ []) (filter (passes q.tests params) rs)) here in
-      let kept : answer.kept ≡ map (shows_last it.number q.tests q.project q.at params) passing = answer.distinct ∙ ap (map (output query)) staged ∙ map-map (output query) (λ r. params ∷ r ∷ []) passing in
+      let preserved : answer.kept ≡ map (shows_last it.number q.tests q.project q.at params) passing = answer.distinct ∙ ap (map (output query)) staged ∙ map-map (output query) (λ r. params ∷ r ∷ []) passing in
       let last = shown_first it.number q.tests q.project q.at params it number q.columns q.numbers passing (filter test was) (found_records it (passes q.tests params) test q.same (db it.number) was known) answer.ordered
-      (subst (λ k. IsPermutation k answer.ordered) kept answer.same) answer.sorted in
+      (subst (λ k. IsPermutation k answer.ordered) preserved answer.same) answer.sorted in
       (last.0, ap (all_meanings it.means) answer.shown ∙ last.1, last.2)
 
   pub finds_last : (r : Result V Error) → (HasCleanDisk (state g b) → IfOk r (λ v. Shown sql params (state g a) (state g b) (items v))) → IsRead g a b → IfOk r (λ v. FindsLast g a b it test number (items v))

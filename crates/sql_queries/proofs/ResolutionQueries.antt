@@ -18,7 +18,7 @@ use Rattle.sql_schema.specs.Statements.{columns_of, HasTables, layout_two}
 use Rattle.sql_lemmas.proofs.Reading.{AsksAs}
 use Rattle.sql_queries.specs.DeskQueries.{names_resolution}
 use Rattle.sql_queries.proofs.LastQueries.{IsLastQuery, sought_last}
-use Rattle.sql_lemmas.proofs.Queries.{names_meeting, one_tells}
+use Rattle.sql_lemmas.proofs.Queries.{names_meeting, one_decides}
 use Rattle.sql_lemmas.proofs.Frames.{wide_one}
 use Rattle.sqlite.specs.Schema.{Schema}
 
@@ -57,6 +57,6 @@ last_of_meeting m meeting meeting_is = record {
   asks = last_of_meeting_asks;
   none = refl;
   columns = λ cells. refl;
-  same = λ cells x h. one_tells cells 1 meeting m x.meeting (names_resolution (columns_of resolutions cells) x h) meeting_is;
+  same = λ cells x h. one_decides cells 1 meeting m x.meeting (names_resolution (columns_of resolutions cells) x h) meeting_is;
   numbers = λ cells x h. number_in_row (columns_of resolutions cells) x h;
 }

@@ -42,60 +42,60 @@ shifted n k highest h = grind (arith, nat_tests)
 back : (n k : ℕ) → (pos n -ℤ pos k) +ℤ pos k ≡ pos n
 back n k = omega (arith, ints)
 
-pub day_kept : (n : ℕ) → n ≤ 401766 → unix_day (pos n -ℤ pos 25567) ≡ Some n
-day_kept n h = rw (back n 25567, shifted n 0 401766 h) refl
+pub day_reads_back : (n : ℕ) → n ≤ 401766 → unix_day (pos n -ℤ pos 25567) ≡ Some n
+day_reads_back n h = rw (back n 25567, shifted n 0 401766 h) refl
 
-pub moment_kept : (n : ℕ) → n ≤ 34712668799 → moment_of_number (pos n -ℤ pos 2208988800) ≡ Some n
-moment_kept n h = rw (back n 2208988800, shifted n 0 34712668799 h) refl
+pub moment_reads_back : (n : ℕ) → n ≤ 34712668799 → moment_of_number (pos n -ℤ pos 2208988800) ≡ Some n
+moment_reads_back n h = rw (back n 2208988800, shifted n 0 34712668799 h) refl
 
-pub number_kept : (n : ℕ) (z : ℤ) → z ≡ pos n → natural_of z ≡ Some n
-number_kept n z e = rw e refl
+pub number_reads_back : (n : ℕ) (z : ℤ) → z ≡ pos n → natural_of z ≡ Some n
+number_reads_back n z e = rw e refl
 
-pub meeting_kept : (m : List ℕ) → Holds 16 is_name m → meeting_of (letters_of m) ≡ Some m
-meeting_kept m h = rw (h.form, h.rest) refl
+pub meeting_reads_back : (m : List ℕ) → Holds 16 is_name m → meeting_of (letters_of m) ≡ Some m
+meeting_reads_back m h = rw (h.form, h.rest) refl
 
-pub party_kept : (p : List ℕ) → Holds 16 is_party p → party_of (letters_of p) ≡ Some p
-party_kept p h = rw (h.form, h.rest) refl
+pub party_reads_back : (p : List ℕ) → Holds 16 is_party p → party_of (letters_of p) ≡ Some p
+party_reads_back p h = rw (h.form, h.rest) refl
 
-pub key_kept : (k : List ℕ) → Holds 64 is_key k → key_of (letters_of k) ≡ Some k
-key_kept k h = rw (h.form, h.rest) refl
+pub key_reads_back : (k : List ℕ) → Holds 64 is_key k → key_of (letters_of k) ≡ Some k
+key_reads_back k h = rw (h.form, h.rest) refl
 
-pub text_kept : (t : List ℕ) → IsText t → read_word plain_text_of t ≡ Some t
-text_kept t h = rw (string_is t h.utf8, h.plain) refl
+pub text_reads_back : (t : List ℕ) → IsText t → read_word plain_text_of t ≡ Some t
+text_reads_back t h = rw (string_is t h.utf8, h.plain) refl
 
-pub company_kept : (x : Company) → read_word company_of (company_word x) ≡ Some x
+pub company_reads_back : (x : Company) → read_word company_of (company_word x) ≡ Some x
 unfolding is_utf8 chars lib.Utf8.encode
-company_kept company.Private = refl
-company_kept company.Public = refl
+company_reads_back company.Private = refl
+company_reads_back company.Public = refl
 
-pub meeting_kind_kept : (x : MeetingKind) → read_word meeting_kind_of (meeting_kind_word x) ≡ Some x
+pub meeting_kind_reads_back : (x : MeetingKind) → read_word meeting_kind_of (meeting_kind_word x) ≡ Some x
 unfolding is_utf8 chars lib.Utf8.encode
-meeting_kind_kept meeting_kind.Annual = refl
-meeting_kind_kept meeting_kind.General = refl
+meeting_kind_reads_back meeting_kind.Annual = refl
+meeting_kind_reads_back meeting_kind.General = refl
 
-pub resolution_kind_kept : (x : ResKind) → read_word resolution_kind_of (resolution_kind_word x) ≡ Some x
+pub resolution_kind_reads_back : (x : ResKind) → read_word resolution_kind_of (resolution_kind_word x) ≡ Some x
 unfolding is_utf8 chars lib.Utf8.encode
-resolution_kind_kept resolution_kind.Ordinary = refl
-resolution_kind_kept resolution_kind.Special = refl
+resolution_kind_reads_back resolution_kind.Ordinary = refl
+resolution_kind_reads_back resolution_kind.Special = refl
 
-pub holder_kind_kept : (x : HolderKind) → read_word holder_kind_of (holder_kind_word x) ≡ Some x
+pub holder_kind_reads_back : (x : HolderKind) → read_word holder_kind_of (holder_kind_word x) ≡ Some x
 unfolding is_utf8 chars lib.Utf8.encode
-holder_kind_kept holder_kind.Individual = refl
-holder_kind_kept holder_kind.Corporation = refl
-holder_kind_kept holder_kind.Treasury = refl
+holder_kind_reads_back holder_kind.Individual = refl
+holder_kind_reads_back holder_kind.Corporation = refl
+holder_kind_reads_back holder_kind.Treasury = refl
 
-pub capacity_kept : (x : Capacity) → read_word capacity_of (capacity_word x) ≡ Some x
+pub capacity_reads_back : (x : Capacity) → read_word capacity_of (capacity_word x) ≡ Some x
 unfolding is_utf8 chars lib.Utf8.encode
-capacity_kept capacity.Member = refl
-capacity_kept capacity.Rep = refl
-capacity_kept capacity.Proxy = refl
+capacity_reads_back capacity.Member = refl
+capacity_reads_back capacity.Rep = refl
+capacity_reads_back capacity.Proxy = refl
 
-pub way_kept : (x : Way) → read_word way_of (way_word x) ≡ Some x
+pub way_reads_back : (x : Way) → read_word way_of (way_word x) ≡ Some x
 unfolding is_utf8 chars lib.Utf8.encode
-way_kept way.For = refl
-way_kept way.Against = refl
-way_kept way.Withheld = refl
+way_reads_back way.For = refl
+way_reads_back way.Against = refl
+way_reads_back way.Withheld = refl
 
-pub instructed_kept : cast_kind_of (Text instructed_word) Null Null Null Null ≡ Some AsInstructed
+pub instructed_reads_back : cast_kind_of (Text instructed_word) Null Null Null Null ≡ Some AsInstructed
 unfolding is_utf8 chars lib.Utf8.encode
-instructed_kept = refl
+instructed_reads_back = refl

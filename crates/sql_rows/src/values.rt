@@ -15,7 +15,7 @@ use desk_words::{
 };
 
 /// The days since 1970-01-01.
-#[tactic(auto, using(crate::proofs::RowColumnLemmas::day_kept))]
+#[tactic(auto, using(crate::proofs::RowColumnLemmas::day_reads_back))]
 pub fn day_number(day: Day) -> i64
     ensures { unix_day result ≡ Some day }
 {
@@ -25,7 +25,7 @@ pub fn day_number(day: Day) -> i64
 }
 
 /// The seconds since 1970-01-01T00:00:00.
-#[tactic(auto, using(crate::proofs::RowColumnLemmas::moment_kept))]
+#[tactic(auto, using(crate::proofs::RowColumnLemmas::moment_reads_back))]
 pub fn moment_number(moment: Moment) -> i64
     ensures { moment_of_number result ≡ Some moment }
 {
@@ -35,7 +35,7 @@ pub fn moment_number(moment: Moment) -> i64
 }
 
 /// The letters of a meeting's name.
-#[tactic(auto, using(crate::proofs::RowColumnLemmas::meeting_kept))]
+#[tactic(auto, using(crate::proofs::RowColumnLemmas::meeting_reads_back))]
 pub fn meeting_text(meeting: &MeetingId) -> &str
     ensures { meeting_of result.now ≡ Some meeting.now }
 {
@@ -43,7 +43,7 @@ pub fn meeting_text(meeting: &MeetingId) -> &str
 }
 
 /// The letters of a party's name.
-#[tactic(auto, using(crate::proofs::RowColumnLemmas::party_kept))]
+#[tactic(auto, using(crate::proofs::RowColumnLemmas::party_reads_back))]
 pub fn party_text(party: &Party) -> &str
     ensures { party_of result.now ≡ Some party.now }
 {
@@ -61,7 +61,7 @@ pub fn caller_text(caller: &Caller) -> &str
 }
 
 /// The letters of a key.
-#[tactic(auto, using(crate::proofs::RowColumnLemmas::key_kept))]
+#[tactic(auto, using(crate::proofs::RowColumnLemmas::key_reads_back))]
 pub fn key_text(key: &SecretKey) -> &str
     ensures { key_of result.now ≡ Some key.now }
 {
@@ -69,7 +69,7 @@ pub fn key_text(key: &SecretKey) -> &str
 }
 
 /// The bytes of a text.
-#[tactic(auto, using(crate::proofs::RowColumnLemmas::text_kept))]
+#[tactic(auto, using(crate::proofs::RowColumnLemmas::text_reads_back))]
 pub fn text_value(text: &Text) -> &str
     ensures { read_word plain_text_of result.now ≡ Some text.now }
 {
@@ -77,7 +77,7 @@ pub fn text_value(text: &Text) -> &str
 }
 
 /// The word for a company.
-#[tactic(auto, using(crate::proofs::RowColumnLemmas::company_kept))]
+#[tactic(auto, using(crate::proofs::RowColumnLemmas::company_reads_back))]
 pub fn company_text(company: Company) -> &'static str
     ensures { read_word company_of result.now ≡ Some company }
 {
@@ -85,7 +85,7 @@ pub fn company_text(company: Company) -> &'static str
 }
 
 /// The word for a kind of meeting.
-#[tactic(auto, using(crate::proofs::RowColumnLemmas::meeting_kind_kept))]
+#[tactic(auto, using(crate::proofs::RowColumnLemmas::meeting_kind_reads_back))]
 pub fn meeting_kind_text(kind: MeetingKind) -> &'static str
     ensures { read_word meeting_kind_of result.now ≡ Some kind }
 {
@@ -93,7 +93,7 @@ pub fn meeting_kind_text(kind: MeetingKind) -> &'static str
 }
 
 /// The word for a kind of resolution.
-#[tactic(auto, using(crate::proofs::RowColumnLemmas::resolution_kind_kept))]
+#[tactic(auto, using(crate::proofs::RowColumnLemmas::resolution_kind_reads_back))]
 pub fn resolution_kind_text(kind: ResKind) -> &'static str
     ensures { read_word resolution_kind_of result.now ≡ Some kind }
 {
@@ -101,7 +101,7 @@ pub fn resolution_kind_text(kind: ResKind) -> &'static str
 }
 
 /// The word for a kind of holder.
-#[tactic(auto, using(crate::proofs::RowColumnLemmas::holder_kind_kept))]
+#[tactic(auto, using(crate::proofs::RowColumnLemmas::holder_kind_reads_back))]
 pub fn holder_kind_text(kind: HolderKind) -> &'static str
     ensures { read_word holder_kind_of result.now ≡ Some kind }
 {
@@ -109,7 +109,7 @@ pub fn holder_kind_text(kind: HolderKind) -> &'static str
 }
 
 /// The word for a capacity.
-#[tactic(auto, using(crate::proofs::RowColumnLemmas::capacity_kept))]
+#[tactic(auto, using(crate::proofs::RowColumnLemmas::capacity_reads_back))]
 pub fn capacity_text(capacity: Capacity) -> &'static str
     ensures { read_word capacity_of result.now ≡ Some capacity }
 {
@@ -117,7 +117,7 @@ pub fn capacity_text(capacity: Capacity) -> &'static str
 }
 
 /// The word for a way.
-#[tactic(auto, using(crate::proofs::RowColumnLemmas::way_kept))]
+#[tactic(auto, using(crate::proofs::RowColumnLemmas::way_reads_back))]
 pub fn way_text(way: Way) -> &'static str
     ensures { read_word way_of result.now ≡ Some way }
 {
@@ -125,7 +125,7 @@ pub fn way_text(way: Way) -> &'static str
 }
 
 /// The seconds since 1970-01-01T00:00:00 of a moment, if there is one.
-#[tactic(auto, using(crate::proofs::RowColumnLemmas::moment_kept))]
+#[tactic(auto, using(crate::proofs::RowColumnLemmas::moment_reads_back))]
 pub fn some_moment_number(moment: Option<Moment>) -> Option<i64>
     ensures { some_moment_of (or_null Int result) ≡ Some moment }
 {
@@ -136,9 +136,9 @@ pub fn some_moment_number(moment: Option<Moment>) -> Option<i64>
 }
 
 /// A number, or none exactly where it is above 2^63 - 1, the highest that is kept.
-#[tactic(auto, using(crate::proofs::RowColumnLemmas::number_kept))]
+#[tactic(auto, using(crate::proofs::RowColumnLemmas::number_reads_back))]
 pub fn whole_number(number: u64) -> Option<i64>
-    ensures kept { IfSome result (λ n. natural_of n ≡ Some number) }
+    ensures reads_back { IfSome result (λ n. natural_of n ≡ Some number) }
     ensures refused { IsNone result ↔ (2 ^ 63 ≤ number) }
 {
     i64::try_from(number).ok()
@@ -165,7 +165,7 @@ pub struct TallyColumns {
 /// The values of the columns of what is declared, or none exactly where a figure is above 2^63 - 1.
 pub fn tally_columns(declared: Option<Tally>) -> Option<TallyColumns>
     ensures refused { IsNone result ↔ IsSomeAnd declared HasTooHighFigure }
-    ensures kept { IfSome result
+    ensures reads_back { IfSome result
         (λ t. declared_of (or_null Int t.votes_for) (or_null Int t.votes_against)
         (or_null Int t.withheld) (or_null Int t.eligible)
         ≡ Some declared) }

@@ -122,13 +122,13 @@ WasOpen old new = HasCleanDisk new → IsTrue new.is_open → IsTrue old.is_open
 -- left before
 pub record ChangesNothingIn {S : Type 0} (layout : Layout) (g : store.Ghosts S) (old new : Held S)
     : Type 0 where
-  pub kept : IsReadIn layout g old new → KeepsCommit (state g old) (state g new)
+  pub preserved : IsReadIn layout g old new → KeepsCommit (state g old) (state g new)
   pub was_open : WasOpen (state g old) (state g new)
   pub crash : Survives (state g old) (state g new) (λ _. ⊥)
 
 -- nothing is committed: the last commit stands, and a crash leaves what it left before
 pub record CommitsNothing {S : Type 0} (g : store.Ghosts S) (old new : Held S) : Type 0 where
-  pub kept : HasCleanDisk (state g new) → KeepsCommit (state g old) (state g new)
+  pub preserved : HasCleanDisk (state g new) → KeepsCommit (state g old) (state g new)
   pub crash : Survives (state g old) (state g new) (λ _. ⊥)
 
 -- these are all rows of the table, in their order, and nothing is changed
@@ -156,7 +156,7 @@ AreEmpty schema s =
 -- and those behind them have none
 pub record ExtendsSchema (before after : Schema) (old new : State) : Type 0 where
   pub schema : new.now.schema ≡ after
-  pub kept : KeepsRows before.tables old.now.trees new.now.trees
+  pub preserved : KeepsRows before.tables old.now.trees new.now.trees
   pub empty : AllByRecursion (λ (t : Table). new.now.trees t.tree ≡ [])
       (drop (length before.tables) after.tables)
 

@@ -19,14 +19,14 @@ use Rattle.sql_stored.specs.Keys.{IsAsked}
 
 nothing_done : {S : Type 0} (g : store.Ghosts S) (a : Held S) → ChangesNothing g a a
 nothing_done g a = record {
-  kept = λ read. record { was_open = λ o. o; committed = λ o. refl };
+  preserved = λ read. record { was_open = λ o. o; committed = λ o. refl };
   was_open = λ clean o. o;
   crash = record { clean = omega arith; shield = λ h. h; counts = omega arith; limit = refl; closes = λ clean o. inl o; crash = λ clean db h. inl h };
 }
 
 none_committed : {S : Type 0} (g : store.Ghosts S) (a : Held S) → CommitsNothing g a a
 none_committed g a = record {
-  kept = λ clean. record { was_open = λ o. o; committed = λ o. refl };
+  preserved = λ clean. record { was_open = λ o. o; committed = λ o. refl };
   crash = (nothing_done g a).crash;
 }
 

@@ -3,7 +3,7 @@ use Rattle.std.specs.Prelude.{◌≡◌, ℕ, ◌==◌, ◌&&◌, List, Option, 
 use Rattle.std.proofs.Common.{subst, sym}
 use Rattle.sqlite.specs.Order.{Row, column}
 use Rattle.sql_lemmas.proofs.Deleting.{passes}
-use Rattle.sql_lemmas.proofs.Queries.{both_tell, number_tells, numbered_tell, one_tells, shown_in, three_tell}
+use Rattle.sql_lemmas.proofs.Queries.{both_decide, number_decides, numbered_decide, one_decides, shown_in, three_decide}
 use Rattle.sql_rows.specs.ColumnValues.{natural_value, number_in, parsed_in, parsed_of}
 use Rattle.sql_stored.specs.Keys.{HoldMeeting, HoldNumber, HoldNumbered, HoldParties, HoldParty, HoldsName, HoldsNumber, NamesMeeting, NamesNumber, NamesNumbered, NamesParties, NamesParty, both_tests, first_test, three_tests}
 use Rattle.vocabulary.specs.Names.{meeting_of, party_of, same_name}
@@ -31,7 +31,7 @@ module _ (columns places : List ℕ) (row : Row) where
         → passes (first_test columns places) params row ≡ same_name a m
     of_meeting m a given held =
         subst (λ (p : Row). passes (first_test columns places) p row ≡ same_name a m) (sym given.is)
-        (one_tells row (place 0) given.meeting m a (name_at meeting_of 0 a held) given.named)
+        (one_decides row (place 0) given.meeting m a (name_at meeting_of 0 a held) given.named)
 
     pub of_party : (m n a b : List ℕ) → NamesParty m n params
         → HoldParty (map (column row) columns) places (a, b)
@@ -40,7 +40,7 @@ module _ (columns places : List ℕ) (row : Row) where
         subst (λ (p : Row). passes (both_tests columns places) p row
         ≡ (same_name a m && same_name b n))
         (sym given.is)
-        (both_tell row (place 0) (place 1) given.meeting m given.party n a b
+        (both_decide row (place 0) (place 1) given.meeting m given.party n a b
         (name_at meeting_of 0 a held.0) given.named (name_at party_of 1 b held.1) given.of)
 
     pub of_number : (m a : List ℕ) (n b : ℕ) → NamesNumber m n params
@@ -49,7 +49,7 @@ module _ (columns places : List ℕ) (row : Row) where
     of_number m a n b given held =
         subst (λ (p : Row). passes (both_tests columns places) p row ≡ (same_name a m && b == n))
         (sym given.is)
-        (number_tells row (place 0) (place 1) given.meeting m a given.number n b
+        (number_decides row (place 0) (place 1) given.meeting m a given.number n b
         (name_at meeting_of 0 a held.0) given.named (number_at 1 b held.1) given.of)
 
     pub of_parties : (m n p a b d : List ℕ) → NamesParties m n p params
@@ -60,7 +60,7 @@ module _ (columns places : List ℕ) (row : Row) where
         subst (λ (q : Row). passes (three_tests columns places) q row
         ≡ (same_name a m && (same_name b n && same_name d p)))
         (sym given.is)
-        (three_tell row (place 0) (place 1) (place 2) given.meeting m given.party n given.other p a
+        (three_decide row (place 0) (place 1) (place 2) given.meeting m given.party n given.other p a
         b d (name_at meeting_of 0 a held.0) given.named (name_at party_of 1 b held.1) given.of
         (name_at party_of 2 d held.2) given.with)
 
@@ -72,6 +72,6 @@ module _ (columns places : List ℕ) (row : Row) where
         subst (λ (q : Row). passes (three_tests columns places) q row
         ≡ (same_name a m && (same_name b n && d == k)))
         (sym given.is)
-        (numbered_tell row (place 0) (place 1) (place 2) given.meeting m given.party n a b
+        (numbered_decide row (place 0) (place 1) (place 2) given.meeting m given.party n a b
         given.number k d (name_at meeting_of 0 a held.0) given.named (name_at party_of 1 b held.1)
         given.of (number_at 2 d held.2) given.with)

@@ -21,7 +21,7 @@ AddsRows it declared =
 pub record IsRowOf {A : Type 0} (it : TableOf A) (declared : Table) (added : A) (values : Row)
     : Type 0 where
   pub cells : Row
-  pub kept : map (λ s. cast_row (record declared { tree = it.number }) (drop 0 s))
+  pub preserved : map (λ s. cast_row (record declared { tree = it.number }) (drop 0 s))
       (rows_of_values (record declared { tree = it.number }) values
       (suc (length declared.columns)) (given_terms declared))
       ≡ (Null ∷ cells) ∷ []

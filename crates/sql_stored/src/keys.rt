@@ -32,7 +32,7 @@ pub trait RowKey {
             result (given self) };
 
     // So a row passes exactly where what it holds is the same.
-    ghost tells: { (columns places : List ℕ) (key of : Self) (params row : Values)
+    ghost decides: { (columns places : List ℕ) (key of : Self) (params row : Values)
         → given key params → held (map (column row) columns) places of
         → passes (tests columns places) params row ≡ same of key };
 }
@@ -50,7 +50,7 @@ impl RowKey for MeetingId {
         tx.query_all(sql, params![meeting_text(&self)])
     }
 
-    ghost tells = { λ columns places key of params row given held.
+    ghost decides = { λ columns places key of params row given held.
         of_meeting columns places row params key of given held };
 }
 
@@ -68,7 +68,7 @@ impl RowKey for (MeetingId, Party) {
         tx.query_all(sql, params![meeting_text(&meeting), party_text(&party)])
     }
 
-    ghost tells = { λ columns places key of params row given held.
+    ghost decides = { λ columns places key of params row given held.
         of_party columns places row params key.0 key.1 of.0 of.1 given held };
 }
 
@@ -87,7 +87,7 @@ impl RowKey for (MeetingId, u64) {
         tx.query_all(sql, params![meeting_text(&meeting), number])
     }
 
-    ghost tells = { λ columns places key of params row given held.
+    ghost decides = { λ columns places key of params row given held.
         of_number columns places row params key.0 of.0 key.1 of.1 given held };
 }
 
@@ -113,7 +113,7 @@ impl RowKey for (MeetingId, Party, Party) {
         )
     }
 
-    ghost tells = { λ columns places key of params row given held.
+    ghost decides = { λ columns places key of params row given held.
         of_parties columns places row params key.0 key.1 key.2 of.0 of.1 of.2 given held };
 }
 
@@ -136,6 +136,6 @@ impl RowKey for (MeetingId, Party, u64) {
         )
     }
 
-    ghost tells = { λ columns places key of params row given held.
+    ghost decides = { λ columns places key of params row given held.
         of_numbered columns places row params key.0 key.1 of.0 of.1 key.2 of.2 given held };
 }

@@ -15,7 +15,7 @@ use Rattle.sql_rows.specs.declared.stored_records.MeetingRow.{MeetingRow}
 use Rattle.vocabulary.specs.OptionSteps.{◌>>=◌}
 use Rattle.sql_schema.specs.Contents.{without_resolutions}
 use Rattle.sql_model.specs.OfficeRecords.{FlatLists, have_meetings, lists_of, lists_of_all, number_before, numbered_from, of_meeting, office_of_records, resolutions_of, further_sessions}
-use Rattle.sql_model.proofs.Names.{ListName, kept_list}
+use Rattle.sql_model.proofs.Names.{ListName, list_stored_as}
 use Rattle.sql_model.proofs.Names.ListName.{Register, Appointments, Endings, Authorities, Presences, Demands, Polls, Casts}
 use Rattle.sql_model.proofs.ModelOfficeLemmas.{AreOf, have_all, office_is, stands_there}
 use Rattle.sql_model.proofs.ModelRecordLemmas.{in_meeting, name_turned, of_meeting-append, of_meeting-none, of_meeting-own, stand-append, stand-more, stand-none, stand-own, stands}
@@ -97,8 +97,8 @@ module _ (flat : FlatLists) (meeting : Meeting) where
           numbered-sorted 1 meeting.resolutions,
         ) (numbered-read 1 meeting.resolutions)
 
-    no_records : (n : ListName) → of_meeting meeting.id ((kept_list n).all flat) ≡ []
-    no_records n = stand-none flat.meetings meeting.id ((kept_list n).all flat) (of.stand.lists n) none
+    no_records : (n : ListName) → of_meeting meeting.id ((list_stored_as n).all flat) ≡ []
+    no_records n = stand-none flat.meetings meeting.id ((list_stored_as n).all flat) (of.stand.lists n) none
 
     its_lists : lists_of with_meeting (without_resolutions meeting) ≡ Some (new_lists meeting)
     its_lists =
@@ -112,8 +112,8 @@ module _ (flat : FlatLists) (meeting : Meeting) where
           resolutions = stand-append with_meeting.meetings flat.resolutions (map (in_meeting meeting.id) (numbered_on 1 meeting.resolutions)) (stand-more flat.meetings more flat.resolutions of.stand.resolutions)
               (stand-own with_meeting.meetings meeting.id (numbered_on 1 meeting.resolutions) now_stands);
           lists = elim [
-            | Register ↦ stand-more flat.meetings more ((kept_list Register).all flat) (of.stand.lists Register)
-            | n ↦ stand-more flat.meetings more ((kept_list n).all flat) (of.stand.lists n)
+            | Register ↦ stand-more flat.meetings more ((list_stored_as Register).all flat) (of.stand.lists Register)
+            | n ↦ stand-more flat.meetings more ((list_stored_as n).all flat) (of.stand.lists n)
           ];
         })
 

@@ -59,9 +59,9 @@ module _ {S : Type 0} (g : store.Ghosts S) (a b : Held S) (reading : CommitsNoth
         → Writes g a c r change
     written_behind r change so = record {
       written = so;
-      kept = λ clean.
-          let before = reading.kept (early clean) in
-          let behind = commits.kept clean in
+      preserved = λ clean.
+          let before = reading.preserved (early clean) in
+          let behind = commits.preserved clean in
           record { was_open = λ o. before.was_open (behind.was_open o); committed = λ o. behind.committed o ∙ before.committed (behind.was_open o) };
       crash = survives_then (state g a) (state g b) (state g c) (λ _. ⊥) (λ _. ⊥) (λ _. ⊥) (λ _ db none. none) (λ _ db none. none) reading.crash commits.crash;
     }

@@ -73,8 +73,8 @@ becomes change old new office h can next =
     next flat.0 office flat.1 (are_of flat.0 office flat.2) (possible office change can)
 
 -- a change of another table leaves the version that is noted
-pub version_kept : (n : ℕ) (old new : State) → (0 == n) ≡ false → KeepsOthers n old new → IsVersion old → IsVersion new
-version_kept n old new apart others h = ap (λ rows. all_meanings contents.desk.means (map (columns_of contents.desk) rows)) (others 0 refl differ) ∙ h
+pub version_preserved : (n : ℕ) (old new : State) → (0 == n) ≡ false → KeepsOthers n old new → IsVersion old → IsVersion new
+version_preserved n old new apart others h = ap (λ rows. all_meanings contents.desk.means (map (columns_of contents.desk) rows)) (others 0 refl differ) ∙ h
   where
     differ : 0 ≢ n
     differ e = grind (arith, nat_tests)
@@ -83,7 +83,7 @@ version_kept n old new apart others h = ap (λ rows. all_meanings contents.desk.
 pub stands_after : {A : Type 0} (old new : State) (change : Change) (table : TableOf A) (effect : List A → List A) → (0 == table.number) ≡ false → (office : OfficeLists) → StandsIn office old → IsTrue (can_make office change)
     → Changes table effect old new → Becomes change old new → StandsIn (applied office change) new × DeclaresNothing old new
 stands_after old new change table effect apart office h can done next =
-    (record { desk = done.desk; version = version_kept table.number old new apart done.others h.version; inside = done.inside; sound = done.sound; means = becomes change old new office h can next }, done.schema)
+    (record { desk = done.desk; version = version_preserved table.number old new apart done.others h.version; inside = done.inside; sound = done.sound; means = becomes change old new office h can next }, done.schema)
 
 -- one statement, on one table
 pub written_by : {S A : Type 0} (g : store.Ghosts S) (old new : Held S) (change : Change) (table : TableOf A) (effect : List A → List A) (n : ℕ) → (0 == table.number) ≡ false → Does g old new (Ok n) (Changes table effect)
@@ -92,6 +92,6 @@ written_by g old new change table effect n apart does commits next = record {
   written = λ clean office h can.
       let done = does clean h.inside h.desk in
       stands_after (state g old) (state g new) change table effect apart office h can done (next done);
-  kept = commits.kept;
+  preserved = commits.preserved;
   crash = commits.crash;
 }

@@ -60,19 +60,19 @@ module _ {S : Type 0} (g : store.Ghosts S) where
   module _ (a b c : Held S) (n : ℕ) (commits : CommitsNothing g a b) {T : Type 0} (r : Result T Error) where
     -- the keys are emptied, and then added
     pub keys_written : (keys : List KeyRow) → is_key_list keys ≡ true → Does g a b (Ok n) (Empties table.keys) → Rewrites g b c r any_records (keys_added keys) → Writes g a c r (change.SetKeys keys)
-    keys_written keys kept does turns =
+    keys_written keys preserved does turns =
         let emptied = λ (flat : FlatLists). record flat { keys = [] } in
         writes_from g a c r (change.SetKeys keys) (λ flat. keys_added keys (emptied flat))
         (turns_then g a b c any_records emptied (turns_by g a b n table.keys (λ _. []) emptied refl does commits (λ flat held. table_changed (state g a) (state g b) flat held Keys (λ _. []))) r any_records (keys_added keys) turns (λ flat good. refl))
-        (λ flat office of can. keys_set flat office of keys (keys_sorted keys kept))
+        (λ flat office of can. keys_set flat office of keys (keys_sorted keys preserved))
 
     -- the closed days are emptied, and then added
     pub days_written : (days : List ℕ) → is_day_list days ≡ true → Does g a b (Ok n) (Empties table.closed) → Rewrites g b c r no_days (days_added days) → Writes g a c r (change.SetClosedDays days)
-    days_written days kept does turns =
+    days_written days preserved does turns =
         let emptied = λ (flat : FlatLists). record flat { closed = [] } in
         writes_from g a c r (change.SetClosedDays days) (λ flat. days_added days (emptied flat))
         (turns_then g a b c any_records emptied (turns_by g a b n table.closed (λ _. []) emptied refl does commits (λ flat held. table_changed (state g a) (state g b) flat held Closed (λ _. []))) r no_days (days_added days) turns (λ flat good. refl))
-        (λ flat office of can. days_set flat office of days (days_sorted days kept))
+        (λ flat office of can. days_set flat office of days (days_sorted days preserved))
 
     -- a meeting is added, and then its resolutions
     pub meeting_written : (m : Meeting) → Does g a b (Ok n) (Adds table.meetings (without_resolutions m)) → Rewrites g b c r any_records (resolutions_added m.id m.resolutions) → Writes g a c r (change.AddMeeting m)
@@ -96,13 +96,13 @@ module _ {S : Type 0} (g : store.Ghosts S) where
   -- and then the meeting is noted as loaded
   pub register_written : (a c d : Held S) (n : ℕ) (id : List ℕ) (rows : List RegisterRow) → is_register rows ≡ true → Rewrites {T = Unit {0}} g a c (Ok tt) any_records (λ flat. rows_added id rows (record flat { register = filter (is_other id) flat.register }))
       → Does g c d (Ok n) (Sets table.meetings (loaded_at id)) → CommitsNothing g c d → Writes {T = Unit {0}} g a d (Ok tt) (change.InMeeting id (SetRegister rows))
-  register_written a c d n id rows kept turns does commits =
+  register_written a c d n id rows preserved turns does commits =
       let loaded = λ (flat : FlatLists). record flat { meetings = map (loaded_at id) flat.meetings } in
       let filled = λ (flat : FlatLists). rows_added id rows (record flat { register = filter (is_other id) flat.register }) in
       writes_from g a d (Ok tt) (change.InMeeting id (SetRegister rows)) (λ flat. loaded (filled flat))
       (turns_then g a c d any_records filled turns (Ok tt) any_records loaded
       (turns_by g c d n table.meetings (map (loaded_at id)) loaded refl does commits (λ flat held. table_changed (state g c) (state g d) flat held Meetings (map (loaded_at id)))) (λ flat good. refl))
-      (λ flat office of can. register_set flat id rows office of can.before.differ (placed_in office id (SetRegister rows) can) (rows_sorted rows kept))
+      (λ flat office of can. register_set flat id rows office of can.before.differ (placed_in office id (SetRegister rows) can) (rows_sorted rows preserved))
 
   -- unless that is refused
   pub rows_unloaded : {T : Type 0} (a c d : Held S) (id : List ℕ) (rows asked : List RegisterRow) (e : Error) (answer : Result T Error) → IsErr answer

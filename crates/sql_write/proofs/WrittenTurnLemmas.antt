@@ -30,7 +30,7 @@ use Rattle.std.proofs.lemmas.Bool.{and_parts}
 use Rattle.desk_words.specs.Changes.{applied}
 use Rattle.sql_write.specs.Writes.{HoldsRecords, Rewrites, Writes, all_in, any_records, no_days, numbered_on, days_added, keys_added, resolutions_added, rows_added}
 use Rattle.sql_desk_tables.specs.Together.{AddsAll}
-use Rattle.sql_write.proofs.Possible.{Possible, possible, version_kept}
+use Rattle.sql_write.proofs.Possible.{Possible, possible, version_preserved}
 
 on_ok : {T : Type 0} {P Q : Type 0} (r : Result T Error) → OnOk r P → (P → Q) → OnOk r Q
 on_ok (Ok x) h next = next h
@@ -71,7 +71,7 @@ module _ {S : Type 0} (g : store.Ghosts S) where
   pub nothing_turned : (held : Held S) (test : FlatLists → Bool) (change : FlatLists → FlatLists) → ((flat : FlatLists) → change flat ≡ flat) → Rewrites {T = Unit {0}} g held held (Ok tt) test change
   nothing_turned held test change same = record {
     done = λ clean flat has good. (subst (λ f. HoldsRecords f (state g held)) (sym (same flat)) has, refl);
-    kept = λ clean. record { was_open = λ o. o; committed = λ o. refl };
+    preserved = λ clean. record { was_open = λ o. o; committed = λ o. refl };
     crash = record {
       clean = omega arith;
       shield = λ h. h;
@@ -90,22 +90,22 @@ module _ {S : Type 0} (g : store.Ghosts S) where
           let early : HasCleanDisk (state g b) = omega (arith, two.crash.clean) in
           let mid = one.done early flat has good in
           on_ok r (two.done clean (first flat) mid.0 (fits flat good)) (λ it. (it.0, it.1 ∙ mid.1));
-      kept = λ clean.
+      preserved = λ clean.
           let early : HasCleanDisk (state g b) = omega (arith, two.crash.clean) in
-          let before = one.kept early in
-          let behind = two.kept clean in
+          let before = one.preserved early in
+          let behind = two.preserved clean in
           record { was_open = λ o. before.was_open (behind.was_open o); committed = λ o. behind.committed o ∙ before.committed (behind.was_open o) };
       crash = survives_then (state g a) (state g b) (state g c) (λ _. ⊥) (λ _. ⊥) (λ _. ⊥) (λ _ db none. none) (λ _ db none. none) one.crash two.crash;
     }
 
   -- a statement is refused
   pub turns_refused : {T : Type 0} (a b : Held S) (e : Error) (test : FlatLists → Bool) (change : FlatLists → FlatLists) → CommitsNothing g a b → Rewrites {T = T} g a b (Err e) test change
-  turns_refused a b e test change commits = record { done = λ clean flat has good. tt; kept = commits.kept; crash = commits.crash }
+  turns_refused a b e test change commits = record { done = λ clean flat has good. tt; preserved = commits.preserved; crash = commits.crash }
 
   -- statements that are refused change nothing that is promised
   pub turns_err : {T U : Type 0} (a b : Held S) (r : Result T Error) (answer : Result U Error) (test : FlatLists → Bool) (turn change : FlatLists → FlatLists) → IsErr answer → Rewrites g a b r test turn → Rewrites g a b answer test change
   turns_err a b r (Ok x) test turn change bad turns = absurd cc
-  turns_err a b r (Err e) test turn change bad turns = record { done = λ clean flat has good. tt; kept = turns.kept; crash = turns.crash }
+  turns_err a b r (Err e) test turn change bad turns = record { done = λ clean flat has good. tt; preserved = turns.preserved; crash = turns.crash }
 
   -- a statement is refused behind others
   pub turns_failed : {T : Type 0} (a b c : Held S) (answer : Result T Error) (e : Error) (test : FlatLists → Bool) (first change : FlatLists → FlatLists) → IsErr answer → Rewrites {T = Unit {0}} g a b (Ok tt) test first → CommitsNothing g b c
@@ -119,8 +119,8 @@ module _ {S : Type 0} (g : store.Ghosts S) where
       → ((flat : FlatLists) → flat_in (state g a).now.trees ≡ Some flat → Changes its effect (state g a) (state g b) → flat_in (state g b).now.trees ≡ Some (change flat))
       → Rewrites {T = Unit {0}} g a b (Ok tt) any_records change
   turns_by a b n its effect change apart does commits flatly = record {
-    done = λ clean flat has good. let it = does clean has.inside has.desk in (record { desk = it.desk; version = version_kept its.number (state g a) (state g b) apart it.others has.version; inside = it.inside; sound = it.sound; means = flatly flat has.means it }, it.schema);
-    kept = commits.kept;
+    done = λ clean flat has good. let it = does clean has.inside has.desk in (record { desk = it.desk; version = version_preserved its.number (state g a) (state g b) apart it.others has.version; inside = it.inside; sound = it.sound; means = flatly flat has.means it }, it.schema);
+    preserved = commits.preserved;
     crash = commits.crash;
   }
 
@@ -135,7 +135,7 @@ module _ {S : Type 0} (g : store.Ghosts S) where
         let flat = bound (flat_in (state g a).now.trees) office_of_records office h.means in
         on_ok r (turns.done clean flat.0 (record { desk = h.desk; version = h.version; inside = h.inside; sound = h.sound; means = flat.1 }) refl) (λ has.
         (record { desk = has.0.desk; version = has.0.version; inside = has.0.inside; sound = has.0.sound; means = ap (λ (o : Option FlatLists). o >>= office_of_records) has.0.means ∙ next flat.0 office (are_of flat.0 office flat.2) (possible office change can) }, has.1));
-    kept = turns.kept;
+    preserved = turns.preserved;
     crash = turns.crash;
   }
 
@@ -144,7 +144,7 @@ module _ {S : Type 0} (g : store.Ghosts S) where
   writes_failed a b r (Ok x) change turn bad turns = absurd cc
   writes_failed a b r (Err e) change turn bad turns = record {
     written = λ clean office h can. tt;
-    kept = turns.kept;
+    preserved = turns.preserved;
     crash = turns.crash;
   }
 
@@ -197,7 +197,7 @@ module _ {S : Type 0} (g : store.Ghosts S) where
           let it = does clean mid.inside mid.desk (flat.closed ++ days) (closed_held (state g b).now.trees (days_added days flat) mid.means) all_earlier in (
             record {
               desk = it.desk;
-              version = version_kept table.closed.number (state g b) (state g c) refl it.others mid.version;
+              version = version_preserved table.closed.number (state g b) (state g c) refl it.others mid.version;
               inside = it.inside;
               sound = it.sound;
               means = table_changed (state g b) (state g c) (days_added days flat) mid.means Closed (λ was. was ++ day ∷ []) it
@@ -205,10 +205,10 @@ module _ {S : Type 0} (g : store.Ghosts S) where
             },
             it.schema ∙ turned.1,
           );
-      kept = λ clean.
+      preserved = λ clean.
           let early : HasCleanDisk (state g b) = omega (arith, commits.crash.clean) in
-          let before = turns.kept early in
-          let behind = commits.kept clean in
+          let before = turns.preserved early in
+          let behind = commits.preserved clean in
           record { was_open = λ o. before.was_open (behind.was_open o); committed = λ o. behind.committed o ∙ before.committed (behind.was_open o) };
       crash = survives_then (state g a) (state g b) (state g c) (λ _. ⊥) (λ _. ⊥) (λ _. ⊥) (λ _ db none. none) (λ _ db none. none) turns.crash commits.crash;
     }

@@ -36,7 +36,7 @@ pub record Writes {S T : Type 0} (g : store.Ghosts S) (old new : Held S) (result
       → OnOk result (StandsIn (applied office change) (state g new)
       × DeclaresNothing (state g old) (state g new))
   -- whatever is answered, nothing is committed
-  pub kept : HasCleanDisk (state g new) → KeepsCommit (state g old) (state g new)
+  pub preserved : HasCleanDisk (state g new) → KeepsCommit (state g old) (state g new)
   -- and a crash leaves what it left before
   pub crash : Survives (state g old) (state g new) (λ _. ⊥)
 
@@ -60,7 +60,7 @@ pub record Rewrites {S T : Type 0} (g : store.Ghosts S) (old new : Held S) (resu
       → OnOk result (HoldsRecords (change flat) (state g new)
       × DeclaresNothing (state g old) (state g new))
   -- whatever is answered, nothing is committed
-  pub kept : HasCleanDisk (state g new) → KeepsCommit (state g old) (state g new)
+  pub preserved : HasCleanDisk (state g new) → KeepsCommit (state g old) (state g new)
   -- and a crash leaves what it left before
   pub crash : Survives (state g old) (state g new) (λ _. ⊥)
 

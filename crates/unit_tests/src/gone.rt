@@ -17,7 +17,7 @@ fn serve(alloc: Global, listener: &mut SliceListener<'_>) -> Result<Result<(), L
 }
 
 /// Whether these are the replies on the connections that were ended, in order.
-fn are_told(listener: &SliceListener<'_>, replies: &[&str]) -> bool {
+fn are_sent(listener: &SliceListener<'_>, replies: &[&str]) -> bool {
     let ended = listener.ended();
     ended.len() == replies.len()
         && ended
@@ -36,7 +36,7 @@ fn an_aborted_peer_ends_nothing(rt: HostRuntime) -> Result<(), Fail> {
     ];
     let mut listener = SliceListener::new(rt.alloc(), &peers);
     assert!(rt; serve(rt.alloc(), &mut listener)?.is_ok());
-    assert!(rt; are_told(&listener, &[NOTHING, NO_KEY]));
+    assert!(rt; are_sent(&listener, &[NOTHING, NO_KEY]));
     Ok(())
 }
 
@@ -50,6 +50,6 @@ fn a_listener_that_fails_ends_the_loop(rt: HostRuntime) -> Result<(), Fail> {
     ];
     let mut listener = SliceListener::new(rt.alloc(), &peers);
     assert!(rt; serve(rt.alloc(), &mut listener)? == Err(LoopFault::Socket));
-    assert!(rt; are_told(&listener, &[NOTHING]));
+    assert!(rt; are_sent(&listener, &[NOTHING]));
     Ok(())
 }

@@ -6,22 +6,22 @@ use std::test::Fail;
 
 /// The lines of a source, each with a `|` behind it, `#` for one that is too long, and `!` where
 /// the reader failed.
-fn told<S: Source>(alloc: Global, source: &mut S) -> Result<Vec<u8>, Fail> {
+fn sent<S: Source>(alloc: Global, source: &mut S) -> Result<Vec<u8>, Fail> {
     let mut reader = LineReader::new();
-    let mut told = Vec::new(alloc);
+    let mut sent = Vec::new(alloc);
     for _ in 0..u32::MAX {
         match reader.next_line(source) {
-            Ok(NextLine::Whole) => told.extend_from_slice(reader.line())?,
-            Ok(NextLine::TooLong) => told.push(b'#')?,
+            Ok(NextLine::Whole) => sent.extend_from_slice(reader.line())?,
+            Ok(NextLine::TooLong) => sent.push(b'#')?,
             Ok(NextLine::End) => break,
             Err(_) => {
-                told.push(b'!')?;
+                sent.push(b'!')?;
                 break;
             }
         }
-        told.push(b'|')?;
+        sent.push(b'|')?;
     }
-    Ok(told)
+    Ok(sent)
 }
 
 const CASES: &[(&[u8], &[u8])] = &[
@@ -42,8 +42,8 @@ const CASES: &[(&[u8], &[u8])] = &[
 #[test]
 fn lines_of_single_bytes(rt: HostRuntime) -> Result<(), Fail> {
     for &(input, lines) in CASES {
-        let told = told(rt.alloc(), &mut ShortReads::new(SliceSource::new(input), 1))?;
-        assert!(rt; told.as_slice() == lines);
+        let sent = sent(rt.alloc(), &mut ShortReads::new(SliceSource::new(input), 1))?;
+        assert!(rt; sent.as_slice() == lines);
     }
     Ok(())
 }
@@ -55,8 +55,8 @@ const WANTS: &[&[u8]] = &[b"one|two|", b"!", b"one|!", b"one|two|!"];
 fn a_read_that_fails(rt: HostRuntime) -> Result<(), Fail> {
     for (failing, want) in WANTS.iter().enumerate() {
         let slow = ShortReads::new(SliceSource::new(b"one\ntwo\n"), 4);
-        let told = told(rt.alloc(), &mut FailAt::new(slow, failing as u64))?;
-        assert!(rt; told.as_slice() == *want, "at {failing}");
+        let sent = sent(rt.alloc(), &mut FailAt::new(slow, failing as u64))?;
+        assert!(rt; sent.as_slice() == *want, "at {failing}");
     }
     Ok(())
 }

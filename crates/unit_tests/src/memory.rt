@@ -50,7 +50,7 @@ fn call_with(alloc: Global, book: &mut Book, key: &str) -> Result<VecSink, Fail>
 }
 
 /// Whether this is written where a meeting is called with a key.
-fn is_told(alloc: Global, book: &mut Book, key: &str, reply: &str) -> Result<bool, Fail> {
+fn is_sent(alloc: Global, book: &mut Book, key: &str, reply: &str) -> Result<bool, Fail> {
     Ok(call_with(alloc, book, key)?.as_slice() == reply.as_bytes())
 }
 
@@ -58,8 +58,8 @@ fn is_told(alloc: Global, book: &mut Book, key: &str, reply: &str) -> Result<boo
 #[test]
 fn a_book_answers_over_http(rt: HostRuntime) -> Result<(), Fail> {
     let mut book = new_book(rt.alloc())?;
-    assert!(rt; is_told(rt.alloc(), &mut book, "nnnnnnnnnnnnnnnn", NO_KEY)?);
-    assert!(rt; is_told(rt.alloc(), &mut book, "oooooooooooooooo", CALLED)?);
-    assert!(rt; is_told(rt.alloc(), &mut book, "oooooooooooooooo", EXISTS)?);
+    assert!(rt; is_sent(rt.alloc(), &mut book, "nnnnnnnnnnnnnnnn", NO_KEY)?);
+    assert!(rt; is_sent(rt.alloc(), &mut book, "oooooooooooooooo", CALLED)?);
+    assert!(rt; is_sent(rt.alloc(), &mut book, "oooooooooooooooo", EXISTS)?);
     Ok(())
 }

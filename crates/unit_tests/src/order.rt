@@ -1,6 +1,6 @@
 //! That the clock is asked once a request was read.
 use crate::office::{Office, moment};
-use crate::peers::{is_told, listen, send};
+use crate::peers::{is_sent, listen, send};
 use desk_words::Moment;
 use std::alloc::Global;
 use std::net::TcpStream;
@@ -70,6 +70,6 @@ fn a_peer_that_sends_after_a_cutoff_is_late(rt: HostRuntime) -> Result<(), Fail>
     assert!(rt; is_unread(&stream));
     serve(rt.alloc(), &stream, before, behind)?;
     drop(stream);
-    assert!(rt; is_told(rt.alloc(), peer, LATE)?);
+    assert!(rt; is_sent(rt.alloc(), peer, LATE)?);
     Ok(())
 }

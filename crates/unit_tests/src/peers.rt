@@ -30,6 +30,6 @@ pub(crate) fn reply_to(alloc: Global, peer: TcpStream) -> io::Result<String> {
 }
 
 /// Whether all that comes to a peer is this reply.
-pub(crate) fn is_told(alloc: Global, peer: TcpStream, reply: &str) -> io::Result<bool> {
+pub(crate) fn is_sent(alloc: Global, peer: TcpStream, reply: &str) -> io::Result<bool> {
     Ok(reply_to(alloc, peer)?.as_str() == reply)
 }

@@ -1,6 +1,6 @@
 //! Connections that are served.
 use crate::office::{Office, moment};
-use crate::peers::{connect, is_told, listen, reply_to, send};
+use crate::peers::{connect, is_sent, listen, reply_to, send};
 use std::alloc::{AllocError, Global};
 use std::net::{TcpListener, TcpStream};
 use std::test::Fail;
@@ -41,11 +41,11 @@ fn followed(alloc: Global, head: &str, count: usize) -> Result<Vec<u8>, AllocErr
 }
 
 #[test]
-fn own_things_are_told_over_a_socket(rt: HostRuntime) -> Result<(), Fail> {
+fn own_things_are_shown_over_a_socket(rt: HostRuntime) -> Result<(), Fail> {
     let listener = listen(&rt)?;
     let peer = send(&rt, &listener, MINE.as_bytes())?;
     serve_all(rt.alloc(), listener, 1)?;
-    assert!(rt; is_told(rt.alloc(), peer, NOTHING)?);
+    assert!(rt; is_sent(rt.alloc(), peer, NOTHING)?);
     Ok(())
 }
 
@@ -57,7 +57,7 @@ fn a_peer_that_closes_at_once_counts(rt: HostRuntime) -> Result<(), Fail> {
     let next = send(&rt, &listener, MINE.as_bytes())?;
     let after = connect(&rt, &listener)?;
     serve_all(rt.alloc(), listener, 2)?;
-    assert!(rt; is_told(rt.alloc(), next, NOTHING)?);
+    assert!(rt; is_sent(rt.alloc(), next, NOTHING)?);
     assert!(rt;
         reply_to(rt.alloc(), after).is_err(),
         "one too many was served"
@@ -82,7 +82,7 @@ fn a_peer_that_sends_more_has_its_reply(rt: HostRuntime) -> Result<(), Fail> {
     let first = send_more(&rt, &listener, MINE)?;
     let second = send_more(&rt, &listener, CAST)?;
     serve_all(rt.alloc(), listener, 2)?;
-    assert!(rt; is_told(rt.alloc(), first, NOTHING)?);
-    assert!(rt; is_told(rt.alloc(), second, TOO_LARGE)?);
+    assert!(rt; is_sent(rt.alloc(), first, NOTHING)?);
+    assert!(rt; is_sent(rt.alloc(), second, TOO_LARGE)?);
     Ok(())
 }

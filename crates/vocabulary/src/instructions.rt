@@ -64,7 +64,7 @@ impl Instructions {
     /// The instructions, in the order of resolutions.
     pub fn as_slice(&self) -> &[Instr]
         ensures value { result.now ≡ self.now }
-        ensures kept { length self.now ≤ MOST_INSTRUCTIONS }
+        ensures valid { length self.now ≤ MOST_INSTRUCTIONS }
     {
         &self.kinds[..self.count as usize]
     }

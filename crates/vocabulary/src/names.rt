@@ -201,7 +201,7 @@ impl Party {
     /// Its letters.
     pub fn as_str(&self) -> &str
         ensures value { result.now ≡ letters_of self.now }
-        ensures kept { Holds 16 is_party self.now }
+        ensures valid { Holds 16 is_party self.now }
     {
         str::from_utf8(letters_of(&self.letters)).unwrap()
     }
@@ -219,7 +219,7 @@ impl MeetingId {
     /// Its letters.
     pub fn as_str(&self) -> &str
         ensures value { result.now ≡ letters_of self.now }
-        ensures kept { Holds 16 is_name self.now }
+        ensures valid { Holds 16 is_name self.now }
     {
         str::from_utf8(letters_of(&self.letters)).unwrap()
     }
@@ -237,7 +237,7 @@ impl SecretKey {
     /// Its letters.
     pub fn as_str(&self) -> &str
         ensures value { result.now ≡ letters_of self.now }
-        ensures kept { Holds 64 is_key self.now }
+        ensures valid { Holds 64 is_key self.now }
     {
         str::from_utf8(letters_of(&self.letters)).unwrap()
     }

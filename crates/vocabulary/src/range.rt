@@ -51,7 +51,7 @@ impl Range {
     /// The first place.
     pub fn from(self) -> u64
         ensures value { result ≡ self.from }
-        ensures kept { IsTrue (is_range self.from self.to) }
+        ensures valid { IsTrue (is_range self.from self.to) }
     {
         self.from
     }
@@ -59,7 +59,7 @@ impl Range {
     /// The last place.
     pub fn to(self) -> u64
         ensures value { result ≡ self.to }
-        ensures kept { IsTrue (is_range self.from self.to) }
+        ensures valid { IsTrue (is_range self.from self.to) }
     {
         self.to
     }

@@ -95,7 +95,7 @@ impl Text {
     /// Its letters.
     pub fn as_str(&self) -> &str
         ensures value { result.now ≡ self.now }
-        ensures kept { IsText self.now }
+        ensures valid { IsText self.now }
     {
         self.text.as_str()
     }

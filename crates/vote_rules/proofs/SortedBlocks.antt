@@ -118,8 +118,8 @@ module _ {X K : Type 0} {cmp : K → K → Ordering} (total : IsTotalOrder cmp) 
       ]) refl
 
   -- what stays of values in order is in order
-  pub kept-sorted : (test : X → Bool) (xs : List X) → IsSortedByKey key cmp xs → IsSortedByKey key cmp (filter test xs)
-  kept-sorted test xs sorted = IsSortedBy-filter (λ x y. is_lt (cmp (key x) (key y))) (ranks_by total key) test xs sorted
+  pub filtered-sorted : (test : X → Bool) (xs : List X) → IsSortedByKey key cmp xs → IsSortedByKey key cmp (filter test xs)
+  filtered-sorted test xs sorted = IsSortedBy-filter (λ x y. is_lt (cmp (key x) (key y))) (ranks_by total key) test xs sorted
 
   -- the values from the wanted key on stand behind all others
   pub drop-from : (wanted : K) (xs : List X) → IsSortedByKey key cmp xs → drop (position_or_len (is_from wanted) xs) xs ≡ filter (is_from wanted) xs
@@ -183,8 +183,8 @@ module _ {X K : Type 0} {cmp : K → K → Ordering} (total : IsTotalOrder cmp) 
   tied Greater s e = ap (λ o. not (is_lt o) && true) e
 
   -- the values of each key keep their order
-  pub kept-stable : (xs ys : List X) → IsStableByKey key cmp xs ys → (x : X) → filter (λ y. is_eq (cmp (key y) (key x))) ys ≡ filter (λ y. is_eq (cmp (key y) (key x))) xs
-  kept-stable xs ys stable x =
+  pub filtered-stable : (xs ys : List X) → IsStableByKey key cmp xs ys → (x : X) → filter (λ y. is_eq (cmp (key y) (key x))) ys ≡ filter (λ y. is_eq (cmp (key y) (key x))) xs
+  filtered-stable xs ys stable x =
       let same : ties (λ a b. is_lt (cmp (key a) (key b))) x ≡ (λ y. is_eq (cmp (key y) (key x))) = λ i y. tied (cmp (key y) (key x)) (cmp (key x) (key y)) (total.antisymm (key x) (key y)) i in
       ap (λ test. filter test ys) (sym same) ∙ stable x ∙ ap (λ test. filter test xs) same
 

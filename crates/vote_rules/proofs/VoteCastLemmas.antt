@@ -67,8 +67,8 @@ module _ (resolution : ℕ) (share : Share) (capacity : Capacity) (voter : List 
   block_way mark = cond (mark.resolution == resolution && same_name mark.voter voter) (way_over capacity share None mark.what) None
 
   -- the voter casts on the resolution as instructed
-  abbrev as_told : CastMark → Bool
-  as_told mark = is_instructed_on resolution mark && same_name mark.voter voter
+  abbrev as_wanted : CastMark → Bool
+  as_wanted mark = is_instructed_on resolution mark && same_name mark.voter voter
 
   by_kind : (right own : Bool) (what : CastKind) → cond (right && own) (way_over capacity share (instructed_way resolution share voter) what) None
       ≡ cond ((right && is_as_instructed what) && own) instructed (cond (right && own) (way_over capacity share None what) None)
@@ -78,18 +78,18 @@ module _ (resolution : ℕ) (share : Share) (capacity : Capacity) (voter : List 
   by_kind true false cast.AsInstructed = refl
   by_kind false own cast.AsInstructed = refl
 
-  splits : (mark : CastMark) → way_cast resolution share capacity voter mark ≡ cond (as_told mark) instructed (block_way mark)
+  splits : (mark : CastMark) → way_cast resolution share capacity voter mark ≡ cond (as_wanted mark) instructed (block_way mark)
   splits mark = by_kind (mark.resolution == resolution) (same_name mark.voter voter) mark.what
 
-  told_only : (right own : Bool) (what : CastKind) → ((right && is_as_instructed what) && own) ≡ true → cond (right && own) (way_over capacity share None what) None ≡ None
-  told_only true own (cast.Block block) told = absurd (cc)
-  told_only false own (cast.Block block) told = refl
-  told_only true true cast.AsInstructed told = none_either (same_capacity Proxy capacity)
-  told_only true false cast.AsInstructed told = refl
-  told_only false own cast.AsInstructed told = refl
+  wanted_only : (right own : Bool) (what : CastKind) → ((right && is_as_instructed what) && own) ≡ true → cond (right && own) (way_over capacity share None what) None ≡ None
+  wanted_only true own (cast.Block block) wanted = absurd (cc)
+  wanted_only false own (cast.Block block) wanted = refl
+  wanted_only true true cast.AsInstructed wanted = none_either (same_capacity Proxy capacity)
+  wanted_only true false cast.AsInstructed wanted = refl
+  wanted_only false own cast.AsInstructed wanted = refl
 
-  apart : (mark : CastMark) → as_told mark ≡ true → block_way mark ≡ None
-  apart mark told = told_only (mark.resolution == resolution) (same_name mark.voter voter) mark.what told
+  apart : (mark : CastMark) → as_wanted mark ≡ true → block_way mark ≡ None
+  apart mark wanted = wanted_only (mark.resolution == resolution) (same_name mark.voter voter) mark.what wanted
 
   -- ---- blocks that are cast on the member's shares
 
@@ -162,7 +162,7 @@ module _ (resolution : ℕ) (share : Share) (capacity : Capacity) (voter : List 
 
   covers_way : (casts : List CastMark) (last : Option ℕ) → is_place share.place ≡ true
       → find_map (cover_way instructed share.place) (reverse (vote_covers capacity voter (filter (is_on_shares_of share.member) (blocks_on resolution casts)) last))
-      ≡ parted (way_cast resolution share capacity voter) block_way as_told instructed splits apart last 0 casts
+      ≡ parted (way_cast resolution share capacity voter) block_way as_wanted instructed splits apart last 0 casts
   covers_way casts None place = all_ways casts
   covers_way casts (Some order) place =
       let on = filter (is_on_shares_of share.member) (blocks_on resolution casts) in
@@ -183,5 +183,5 @@ module _ (resolution : ℕ) (share : Share) (capacity : Capacity) (voter : List 
       ap (find_map (way_tagged instructed)) (tags_at-place covers share.place place)
       ∙ way_of_covers instructed covers share.place
       ∙ covers_way casts (last_instructed resolution casts voter) place
-      ∙ sym (last_instructed_suffices (way_cast resolution share capacity voter) block_way as_told instructed splits apart 0 casts)
+      ∙ sym (last_instructed_suffices (way_cast resolution share capacity voter) block_way as_wanted instructed splits apart 0 casts)
       ∙ unnumbered (way_cast resolution share capacity voter) 0 casts

@@ -31,13 +31,13 @@ find_map-turned f x xs =
     ∙ find_map-append f (reverse xs) (x ∷ [])
     ∙ ap (option_or (find_map f (reverse xs))) (or_none (f x))
 
-kept_if : {X Y : Type 0} (f : X → Option Y) (b : Bool) (x : X) (xs : List X) → find_map f (cond b (x ∷ xs) xs) ≡ option_or (cond b (f x) None) (find_map f xs)
-kept_if f true x xs = refl
-kept_if f false x xs = refl
+filtered_if : {X Y : Type 0} (f : X → Option Y) (b : Bool) (x : X) (xs : List X) → find_map f (cond b (x ∷ xs) xs) ≡ option_or (cond b (f x) None) (find_map f xs)
+filtered_if f true x xs = refl
+filtered_if f false x xs = refl
 
 pub find_map-filter : {X Y : Type 0} (f : X → Option Y) (p : X → Bool) (xs : List X) → find_map f (filter p xs) ≡ find_map (λ x. cond (p x) (f x) None) xs
 find_map-filter f p [] = refl
-find_map-filter f p (x ∷ xs) = kept_if f (p x) x (filter p xs) ∙ ap (option_or (cond (p x) (f x) None)) (find_map-filter f p xs)
+find_map-filter f p (x ∷ xs) = filtered_if f (p x) x (filter p xs) ∙ ap (option_or (cond (p x) (f x) None)) (find_map-filter f p xs)
 
 given_if : {X Y : Type 0} (f : X → Option Y) (o : Option X) (xs : List X) → find_map f (cons_option o xs) ≡ option_or (option_and_then f o) (find_map f xs)
 given_if f None xs = refl
@@ -101,9 +101,9 @@ enumerate_more xs i x lt is =
     ∙ ap (λ k. enumerate_from 0 (take i xs) ++ (k, x) ∷ []) e
 
 -- a value that is put where a test passes, and what was there where it does not
-pub kept_place : {X : Type 0} (b : Bool) (x : X) (o : Option X) → cond b (Some x) o ≡ option_or (cond b (Some x) None) o
-kept_place true x o = refl
-kept_place false x o = refl
+pub filtered_place : {X : Type 0} (b : Bool) (x : X) (o : Option X) → cond b (Some x) o ≡ option_or (cond b (Some x) None) o
+filtered_place true x o = refl
+filtered_place false x o = refl
 
 -- a function over the values of another
 pub filter_map_mapped : {X Y Z : Type 0} (f : Y → Option Z) (h : X → Y) (xs : List X) → filter_map f (map h xs) ≡ filter_map (λ x. f (h x)) xs

@@ -36,13 +36,13 @@ capacity_for Treasury = Member
 
 -- a way, if a proxy who is so instructed, or free, may vote it
 abbrev pub vote_if : Option Way → Way → Option Way
-vote_if told way = if allows told way then Some way else None
+vote_if wanted way = if allows wanted way then Some way else None
 
 -- the vote by the proxy of an appointment, whose casts leave these pieces
 abbrev pub vote_by_proxy : Number → Place → Appointment → List Piece → Option Way
 vote_by_proxy resolution place a pieces =
-    let told = instructed_on resolution a.instructions in
-    option_and_then (vote_if told) (way_at told pieces place)
+    let wanted = instructed_on resolution a.instructions in
+    option_and_then (vote_if wanted) (way_at wanted pieces place)
 
 -- the vote by the proxy of the appointment that stands at a place of a list, with the pieces that
 -- stand there too

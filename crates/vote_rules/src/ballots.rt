@@ -125,10 +125,10 @@ impl<B: Blocks> Ballots<B> {
 }
 
 /// The way, if a proxy who is so instructed, or free, may vote it.
-fn vote_if(told: Option<Way>, way: Way) -> Option<Way>
-    ensures { result ≡ vote_if told way }
+fn vote_if(wanted: Option<Way>, way: Way) -> Option<Way>
+    ensures { result ≡ vote_if wanted way }
 {
-    if allows(told, way) { Some(way) } else { None }
+    if allows(wanted, way) { Some(way) } else { None }
 }
 
 /// The vote by the proxy of an appointment, by what its casts leave.
@@ -140,9 +140,9 @@ fn vote_by_proxy<B: Blocks>(
 ) -> Option<Way>
     ensures { result ≡ vote_by_proxy resolution place appointment.now (B.pieces blocks.now) }
 {
-    let told = instructed_on(appointment.instructions.as_slice(), resolution);
-    let way = way_at(blocks, place, told)?;
-    vote_if(told, way)
+    let wanted = instructed_on(appointment.instructions.as_slice(), resolution);
+    let way = way_at(blocks, place, wanted)?;
+    vote_if(wanted, way)
 }
 
 /// The vote by the proxy of the appointment that stands there among the member's.

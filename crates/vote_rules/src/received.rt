@@ -78,7 +78,7 @@ fn blocks_by_member(
     resolution: u64,
 ) -> Result<Vec<BlockCast>, AllocError>
     ensures order { IfOk result (λ blocks. AreInMemberOrder blocks.items) }
-    ensures kept { IfOk result
+    ensures preserved { IfOk result
         (λ blocks. (member : List ℕ)
         → filter (is_on_shares_of member) blocks.items
         ≡ filter (is_on_shares_of member) (blocks_on resolution casts.now)) }

@@ -55,7 +55,7 @@ impl Book {
     /// are no office then: it takes no memory.
     pub fn of_lists(alloc: Global, lists: OfficeLists) -> Result<Book, BookFault>
         ensures value { IfOk result (λ b. b ≡ office_in_order lists) }
-        ensures kept { IfOk result (λ b. IsTrue (is_office b)) }
+        ensures valid { IfOk result (λ b. IsTrue (is_office b)) }
         ensures no_office { result ≡ Err NoOffice → is_office (office_in_order lists) ≡ false }
         ensures sure { IfErr result (λ e. e ≡ NoOffice) }
     {

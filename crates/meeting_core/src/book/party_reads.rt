@@ -1,15 +1,15 @@
 //! What a party is told of a meeting, where it is found or where there is none.
 ghost use Rattle.std.specs.Prelude.{◌≡◌, true, IfOk, IfSome};
 ghost use Rattle.std.specs.Option.{option_copied};
-ghost use Rattle.party_views.specs.RowsRead.{rows_read};
-ghost use Rattle.party_views.specs.PartyRows.{rows_in};
+ghost use Rattle.party_views.specs.RowsRead.{own_rows_read};
+ghost use Rattle.party_views.specs.PartyRows.{own_rows_in};
 ghost use Rattle.party_views.specs.Views.{public_in};
 ghost use Rattle.desk_words.specs.Ordered.{ascends_by};
 ghost use Rattle.desk_words.specs.Registers.{member_before};
 
 use desk_words::{MeetingLists, Party, PartyRequest};
 use office_days::Closed;
-use party_rows::{no_rows_of, rows_for, rows_of};
+use party_rows::{no_own_rows, read_own_rows, read_own_rows_for};
 use party_views::{OwnRows, PublicRecord};
 use std::alloc::{AllocError, Global};
 
@@ -27,22 +27,22 @@ pub(crate) fn public_in<'a>(closed: &'a Closed, found: Option<&'a MeetingLists>)
 }
 
 /// The rows of a party in a meeting; where there is none, none.
-pub(crate) fn rows_in(
+pub(crate) fn own_rows_in(
     alloc: Global,
     found: Option<&MeetingLists>,
     party: Party,
 ) -> Result<OwnRows, AllocError>
     requires { IfSome (option_copied found) (λ m. ascends_by member_before m.register ≡ true) }
-    ensures { IfOk result (λ rows. rows ≡ rows_in (option_copied found.entry) party) }
+    ensures { IfOk result (λ rows. rows ≡ own_rows_in (option_copied found.entry) party) }
 {
     match found {
-        None => Ok(no_rows_of(alloc, party)),
-        Some(lists) => rows_of(alloc, lists, party),
+        None => Ok(no_own_rows(alloc, party)),
+        Some(lists) => read_own_rows(alloc, lists, party),
     }
 }
 
 /// Those of the rows of a party in a meeting that the answer to a request reads.
-pub(crate) fn rows_read(
+pub(crate) fn own_rows_read(
     alloc: Global,
     found: Option<&MeetingLists>,
     party: Party,
@@ -50,10 +50,10 @@ pub(crate) fn rows_read(
 ) -> Result<OwnRows, AllocError>
     requires { IfSome (option_copied found) (λ m. ascends_by member_before m.register ≡ true) }
     ensures { IfOk result (λ rows. rows
-        ≡ rows_read asked.now (rows_in (option_copied found.entry) party)) }
+        ≡ own_rows_read asked.now (own_rows_in (option_copied found.entry) party)) }
 {
     match found {
-        None => Ok(no_rows_of(alloc, party)),
-        Some(lists) => rows_for(alloc, lists, party, asked),
+        None => Ok(no_own_rows(alloc, party)),
+        Some(lists) => read_own_rows_for(alloc, lists, party, asked),
     }
 }

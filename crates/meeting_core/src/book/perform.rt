@@ -23,7 +23,7 @@ impl Book {
             FnOnceReturnsAt F.FnOnce show (decided self.old call).reply (Ok t)
             × (self.new ≡ stepped self.old call)) }
         ensures same { OnErr result (self.new ≡ self.old) }
-        ensures kept { IsTrue (is_office self.new) }
+        ensures valid { IsTrue (is_office self.new) }
         ensures sure { needs_no_memory self.old call.caller call.request ≡ true → IfErr result
             (λ e. FnOnceReturnsAt F.FnOnce show (decided self.old call).reply (Err e)) }
         ensures refusals { is_at_once_to call.caller (decided self.old call) ≡ true

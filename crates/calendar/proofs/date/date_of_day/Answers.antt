@@ -10,7 +10,7 @@ pub overflow_cast-result : goal.overflow_cast-result
 overflow_cast-result c =
     let date = c.from_days_since_min-date.result in
     let number : epoch_day date +ℤ pos 25567 ≡ pos c.args.day = omega (arith, signed_arith) in
-    let is = civil_day-Some date.year date.month date.day c.args.day (civil date) c.number.ensures.kept number in
+    let is = civil_day-Some date.year date.month date.day c.args.day (civil date) c.number.ensures.valid number in
     let fits : FitsSigned w16 date.year = omega (arith, signed_arith, is.0, is.1) in
     rw (to_z-of_z w16 date.year fits) (omega (arith, signed_arith, unsigned_abs-parts date.year, one_part date.year, is.0, is.1))
 
@@ -18,6 +18,6 @@ pub returns : goal.returns
 returns c =
     let date = c.from_days_since_min-date.result in
     let number : epoch_day date +ℤ pos 25567 ≡ pos c.args.day = omega (arith, signed_arith) in
-    let is = civil_day-Some date.year date.month date.day c.args.day (civil date) c.number.ensures.kept number in
+    let is = civil_day-Some date.year date.month date.day c.args.day (civil date) c.number.ensures.valid number in
     let fits : FitsSigned w16 date.year = omega (arith, signed_arith, is.0, is.1) in
     rw (to_z-of_z w16 date.year fits) is.2

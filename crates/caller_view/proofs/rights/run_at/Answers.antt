@@ -1,6 +1,6 @@
 use Rattle.std.proofs.Common.{find, ap, sym, ◌∙◌}
 use Rattle.std.specs.Option.{option_copied}
-use Rattle.seq.proofs.Kept.{none-found}
+use Rattle.seq.proofs.Filtered.{none-found}
 use Rattle.vocabulary.specs.Places.{Places, holds}
 use Rattle.caller_view.proofs.RightsLemmas.{run_found, run_lacks}
 use Rattle.caller_view.specs.Rights.{governed_at_poll, governs_at}

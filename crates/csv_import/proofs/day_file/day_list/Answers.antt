@@ -14,7 +14,7 @@ returns-in-Ok c =
     let days : List ℕ = keys c.args.days in
     let up : ascends_by day_before days ≡ true = ascends-from_sorted nat_cmp days c.listed.ensures.ordered in
     ap (λ list. Ok list)
-    (same_list-from_Contains nat_cmp_total (λ (day : ℕ). day) days c.in-Ok.days up (and_parts _ _ c.in-Ok.ensures.kept).1
+    (same_list-from_Contains nat_cmp_total (λ (day : ℕ). day) days c.in-Ok.days up (and_parts _ _ c.in-Ok.ensures.valid).1
     (λ day has. (c.in-Ok.ensures.days day).1 (rw c.in_ok-listed.ensures.value has))
     (λ day has. rw c.in_ok-listed.ensures.value at ((c.in-Ok.ensures.days day).0 has)))
 

@@ -4,25 +4,25 @@ use Rattle.meeting_core.specs.Decisions.{AreMeetingsRead}
 use Rattle.sql_load_meeting.specs.declared.desk.MeetingCount.{MeetingCount}
 use Rattle.sql_load_public.proofs.StoredOfficeLemmas.{holds_stop}
 use Rattle.desk_store.specs.TableReads.{IsDecidedAlways}
-use Rattle.desk_store.proofs.DecidingLemmas.{told_made}
-use Rattle.desk_store.proofs.DeskReadLemmas.{told_office}
-use Rattle.desk_store.proofs.StepLemmas.{failed_told}
+use Rattle.desk_store.proofs.DecidingLemmas.{returned_made}
+use Rattle.desk_store.proofs.DeskReadLemmas.{returned_office}
+use Rattle.desk_store.proofs.StepLemmas.{failed_returned}
 use Rattle.desk_store.proofs.deciding.decide_new_meeting.Goals as goal
 
 pub returns-in_err-count-clause-holds : goal.returns-in_err-count-clause-holds
 returns-in_err-count-clause-holds g c =
     let what = CallMeeting c.args.new.now in
     let is : c.from_residual.result ≡ Err c.in_err-count.field-0.0 = search rules in
-    told_office g.S.Store _ _ _ (IsDecidedAlways what) (holds_stop g.S.Store _ _ _ (IsDecidedAlways what) c.in_err-count.field-0.0 c.from_residual.result is c.in_err-count.ensures.holds)
+    returned_office g.S.Store _ _ _ (IsDecidedAlways what) (holds_stop g.S.Store _ _ _ (IsDecidedAlways what) c.in_err-count.field-0.0 c.from_residual.result is c.in_err-count.ensures.holds)
 
 pub returns-in_err-answer-clause-holds : goal.returns-in_err-answer-clause-holds
 returns-in_err-answer-clause-holds g c =
     let what = CallMeeting c.args.new.now in
-    failed_told g.S.Store _ _ _ (IsDecidedAlways what) _ c.from_residual-in_err-answer.result c.from_residual-in_err-answer.ensures.0 (told_office g.S.Store _ _ _ _ c.in_ok-count.ensures.holds)
+    failed_returned g.S.Store _ _ _ (IsDecidedAlways what) _ c.from_residual-in_err-answer.result c.from_residual-in_err-answer.ensures.0 (returned_office g.S.Store _ _ _ _ c.in_ok-count.ensures.holds)
 
 pub returns-clause-holds : goal.returns-clause-holds
 returns-clause-holds g c =
-    told_made g.S.Store _ _ c.in_ok-count.count _ _ (IsDecidedAlways (CallMeeting c.args.new.now)) c.in_ok-count.ensures.holds
-    (λ office kept told now.
-    let is : AreMeetingsRead office c.args.new.now.meeting c.in_ok-count.count.is_named c.in_ok-count.count.held = record { named = ap (λ (it : MeetingCount). it.is_named) told; held = ap (λ (it : MeetingCount). it.held) told } in
-    record { is = c.in_ok-answer.ensures.decided office now is; kept = c.in_ok-answer.ensures.kept office kept is })
+    returned_made g.S.Store _ _ c.in_ok-count.count _ _ (IsDecidedAlways (CallMeeting c.args.new.now)) c.in_ok-count.ensures.holds
+    (λ office preserved returned now.
+    let is : AreMeetingsRead office c.args.new.now.meeting c.in_ok-count.count.is_named c.in_ok-count.count.held = record { named = ap (λ (it : MeetingCount). it.is_named) returned; held = ap (λ (it : MeetingCount). it.held) returned } in
+    record { is = c.in_ok-answer.ensures.decided office now is; preserved = c.in_ok-answer.ensures.valid office preserved is })

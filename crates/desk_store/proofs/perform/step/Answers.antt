@@ -18,8 +18,8 @@ pub returns-clause-declares : goal.returns-clause-declares
 returns-clause-declares g c = λ clean inside sound office stands.
     on_ok_weaker c.write_and_show.result (λ it. it.3) (step_on g.S.Store c.args.tx.now.conn.now c.decide.new.tx.conn.now c.write_and_show.new.tx.conn.now c.args.call.now c.in_ok-answer.answer c.in_ok-answer.ensures.holds c.write_and_show.result c.decided_changes_can_be_made.ensures c.write_and_show.ensures.writes clean inside sound office stands)
 
-pub returns-clause-kept : goal.returns-clause-kept
-returns-clause-kept g c = step_keeps g.S.Store c.args.tx.now.conn.now c.decide.new.tx.conn.now c.write_and_show.new.tx.conn.now c.args.call.now c.in_ok-answer.answer c.in_ok-answer.ensures.holds c.write_and_show.result c.write_and_show.ensures.writes
+pub returns-clause-preserved : goal.returns-clause-preserved
+returns-clause-preserved g c = step_keeps g.S.Store c.args.tx.now.conn.now c.decide.new.tx.conn.now c.write_and_show.new.tx.conn.now c.args.call.now c.in_ok-answer.answer c.in_ok-answer.ensures.holds c.write_and_show.result c.write_and_show.ensures.writes
 
 pub returns-clause-was_open : goal.returns-clause-was_open
 returns-clause-was_open g c = step_opened g.S.Store c.args.tx.now.conn.now c.decide.new.tx.conn.now c.write_and_show.new.tx.conn.now c.args.call.now c.in_ok-answer.answer c.in_ok-answer.ensures.holds c.write_and_show.result c.write_and_show.ensures.writes

@@ -10,6 +10,6 @@ returns g c =
       ended = c.run_read-ended.result;
       between = c.run_read-ended.new.host;
       did = c.run_read-ended.ensures;
-      told = c.tell.ensures;
+      reported = c.report.ensures;
       rest = refl;
     }

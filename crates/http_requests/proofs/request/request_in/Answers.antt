@@ -11,6 +11,6 @@ returns-in_err-way-clause-came g c =
 pub returns-clause-came : goal.returns-clause-came
 returns-clause-came g c =
     let is = sym c.way_in.ensures.way ∙ c.in_ok-way.was in
-    came-map (λ bytes heard. asked-way c.args.head.now.asked c.in_ok-way.way c.args.head.now.rest _ bytes _ is c.rest.ensures heard)
-    (λ bytes heard few. takes-way _ _ c.in_ok-way.way c.args.head.now.rest _ bytes _ _ is c.in_ok-way.ensures.bound c.rest.ensures heard few)
+    came-map (λ bytes content. asked-way c.args.head.now.asked c.in_ok-way.way c.args.head.now.rest _ bytes _ is c.rest.ensures content)
+    (λ bytes content few. takes-way _ _ c.in_ok-way.way c.args.head.now.rest _ bytes _ _ is c.in_ok-way.ensures.bound c.rest.ensures content few)
     c.request_by.ensures.came

@@ -1,6 +1,6 @@
 use Rattle.std.proofs.Common.{◌≡◌, ◌++◌, ◌∷◌, [], ap, ◌∙◌, arith}
 use Rattle.keyed_seq.specs.Positions.{places_at}
-use Rattle.keyed_seq.proofs.KeptPlaces.{places_in, places_in-or_default, places_in-added}
+use Rattle.keyed_seq.proofs.StoredPlaces.{places_in, places_in-or_default, places_in-added}
 use Rattle.keyed_seq.proofs.places.file.Goals as goal
 
 pub returns-clause-ok : goal.returns-clause-ok

@@ -1,4 +1,4 @@
-use Rattle.laws_text.proofs.ReplayLemmas.{replays_make, replays_tell, replays_write}
+use Rattle.laws_text.proofs.ReplayLemmas.{replays_make, replays_answer, replays_write}
 use Rattle.laws_text.proofs.replays.replays_show_runs.Goals as goal
 
 pub returns-clause-written : goal.returns-clause-written
@@ -8,4 +8,4 @@ pub returns-clause-calls : goal.returns-clause-calls
 returns-clause-calls c = replays_make
 
 pub returns-clause-holds : goal.returns-clause-holds
-returns-clause-holds c = replays_tell
+returns-clause-holds c = replays_answer

@@ -15,13 +15,13 @@ use Rattle.caller_view.specs.PartyRulings.{party_ruling}
 use Rattle.caller_view.proofs.PublicReadLemmas.{no_more_of_the_public}
 use Rattle.party_views.specs.OwnViews.{own_from}
 use Rattle.party_views.specs.Public.{PublicRecord}
-use Rattle.party_views.specs.PartyRows.{rows_in}
+use Rattle.party_views.specs.PartyRows.{own_rows_in}
 use Rattle.party_views.specs.Views.{meeting_at, own_of, public_of}
 use Rattle.office_decisions.specs.RequestLimits.{if_any, keeps_limits}
 use Rattle.meeting_core.specs.Decisions.{AreRead, party_call}
 use Rattle.meeting_core.specs.Step.{decided}
 use Rattle.meeting_core.proofs.CoreEntryLemmas.{entry_in_limits}
-use Rattle.meeting_core.proofs.OfficeKept.{step_kept}
+use Rattle.meeting_core.proofs.OfficePreserved.{step_preserved}
 use Rattle.meeting_core.proofs.RulingLemmas.{settled_within}
 use Rattle.meeting_core.proofs.answers.decide_from_rows.Goals as goal
 
@@ -34,7 +34,7 @@ is_decided c office party read =
     let now = c.args.now in
     let what = c.args.asked.now in
     let public = c.args.public.now in
-    let all = rows_in (meeting_at office meeting) party in
+    let all = own_rows_in (meeting_at office meeting) party in
     let entered = λ (entry : Entry). InMeeting meeting (Enter entry) in
     let ruled = party_ruling (public_of office meeting) (own_of office party meeting now) now what in
     c.entering.ensures
@@ -47,12 +47,12 @@ is_decided c office party read =
 pub returns-clause-decided : goal.returns-clause-decided
 returns-clause-decided c = is_decided c
 
-pub returns-clause-kept : goal.returns-clause-kept
-returns-clause-kept c = λ office party read kept.
+pub returns-clause-valid : goal.returns-clause-valid
+returns-clause-valid c = λ office party read preserved.
     let meeting = c.args.meeting in
     let now = c.args.now in
     let decision = is_decided c office party read in
     let entered = λ (entry : Entry). InMeeting meeting (Enter entry) in
     let ruled = party_ruling (public_of office meeting) (own_of office party meeting now) now c.args.asked.now in
     let limits = ap (λ (a : Answer Change). if_any keeps_limits a.change) (settled_within entered ruled) ∙ entry_in_limits meeting (ruled_answer ruled).change in
-    ap (λ (a : Answer Change). is_office (applied_if_any office a.change)) decision ∙ step_kept office now (caller.Party party) (asked.Party meeting c.args.asked.now) kept limits
+    ap (λ (a : Answer Change). is_office (applied_if_any office a.change)) decision ∙ step_preserved office now (caller.Party party) (asked.Party meeting c.args.asked.now) preserved limits

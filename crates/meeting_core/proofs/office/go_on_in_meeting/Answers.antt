@@ -1,6 +1,6 @@
 use Rattle.std.proofs.Common.{ap, sym, ◌∙◌}
 use Rattle.std.specs.Result.{result_err}
-use Rattle.meeting_core.proofs.ReadKept.{decided_early}
+use Rattle.meeting_core.proofs.ReadPreserved.{decided_early}
 use Rattle.meeting_core.proofs.office.go_on_in_meeting.Goals as goal
 
 pub returns-in-Err-clause-decided : goal.returns-in-Err-clause-decided

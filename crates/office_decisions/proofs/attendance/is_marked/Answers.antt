@@ -1,7 +1,7 @@
 use Rattle.std.proofs.Common.{Bool, List, ap, ◌∙◌}
 use Rattle.std.specs.List.{filter_map, list_any, slice_get}
 use Rattle.std.specs.Prelude.{ℕ, ◌==◌}
-use Rattle.seq.proofs.Kept.{any-filter}
+use Rattle.seq.proofs.Filtered.{any-filter}
 use Rattle.desk_words.specs.Names.{same_name}
 use Rattle.desk_words.specs.Sessions.{last_number}
 use Rattle.desk_words.specs.declared.records.PresenceMark.{PresenceMark}

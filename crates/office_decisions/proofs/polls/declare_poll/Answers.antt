@@ -8,7 +8,7 @@ use Rattle.desk_words.specs.declared.answer.Answer.{Answer}
 use Rattle.desk_words.specs.declared.change.MeetingChange.{MeetingChange}
 use Rattle.office_decisions.specs.RequestLimits.{if_any, is_within_limits}
 use Rattle.office_decisions.specs.PollRulings.{declare_cases, declared_answer, declaration_of, result_on}
-use Rattle.office_decisions.proofs.DecidedCountLemmas.{handed_on, kept_count}
+use Rattle.office_decisions.proofs.DecidedCountLemmas.{handed_on, preserved_count}
 use Rattle.office_decisions.proofs.polls.declare_poll.Goals as goal
 
 -- nothing refuses it, so that the count is declared
@@ -28,4 +28,4 @@ returns-clause-limits c =
     let number = c.args.resolution in
     let found = slice_get m.meeting.resolutions (number - 1) in
     handed_on c.tally_in-count.result c.declare.result _ (λ tally. declared_answer number (result_on found tally)) (λ (a : Answer MeetingChange). if_any is_within_limits a.change ≡ true)
-    (λ tally is. ap is_tally (kept_count found tally) ∙ is) c.declare.ensures c.tally_in-count.ensures.limits
+    (λ tally is. ap is_tally (preserved_count found tally) ∙ is) c.declare.ensures c.tally_in-count.ensures.limits

@@ -6,7 +6,7 @@ use Rattle.std.proofs.lemmas.List.{take_all}
 use Rattle.vocabulary.specs.Names.{name_cmp}
 use Rattle.party_views.specs.OwnViews.{rows_by}
 use Rattle.party_views.specs.declared.own_rows.MemberRows.{MemberRows}
-use Rattle.party_views.proofs.ViewKeptLemmas.{place-put}
+use Rattle.party_views.proofs.ViewPreservedLemmas.{place-put}
 use Rattle.party_views.proofs.governed.places_by_member.Goals as goal
 
 pub loop-rows-preserved : goal.loop-rows-preserved

@@ -3,7 +3,7 @@ use Rattle.std.specs.Prelude.{List, map}
 use Rattle.desk_words.specs.declared.records.Appointment.{Appointment}
 use Rattle.party_views.specs.RowsRead.{polls_if_on}
 use Rattle.party_views.specs.ViewsByMember.{received_with}
-use Rattle.party_views.proofs.ViewKeptLemmas.{received-alike}
+use Rattle.party_views.proofs.ViewPreservedLemmas.{received-alike}
 use Rattle.party_views.proofs.governed.received_from.Goals as goal
 
 pub returns : goal.returns

@@ -3,7 +3,7 @@ use Rattle.std.specs.Prelude.{sum_by}
 use Rattle.proxy_rules.specs.Holdings.{IsValidHolding}
 use Rattle.proxy_rules.specs.Tiles.{ArePieces, shares_if}
 use Rattle.proxy_rules.specs.declared.holdings.Holding.{Holding}
-use Rattle.proxy_rules.proofs.ProxyKeptLemmas.{kept_by}
+use Rattle.proxy_rules.proofs.ProxyValidLemmas.{valid_by}
 use Rattle.proxy_rules.proofs.ShareLemmas.{shares_of-le}
 use Rattle.poll_rules.specs.DemandSums.{is_one_of}
 use Rattle.poll_rules.specs.Demands.{names_one}
@@ -19,7 +19,7 @@ returns-then-branch c =
 pub pieces-requires : goal.pieces-requires
 pieces-requires c =
     let papers = c.args.papers.now in
-    subst (λ (h : Holding). IsValidHolding h) (sym c.in_ok-holding.ensures) (kept_by papers.appointments.now papers.endings.now c.args.row.now c.requires.numbered c.requires.tags c.requires.few)
+    subst (λ (h : Holding). IsValidHolding h) (sym c.in_ok-holding.ensures) (valid_by papers.appointments.now papers.endings.now c.args.row.now c.requires.numbered c.requires.tags c.requires.few)
 
 pub shares_of_demanders-requires : goal.shares_of_demanders-requires
 shares_of_demanders-requires c =

@@ -27,5 +27,5 @@ returns c = λ person.
     ∙ ap (λ b. items_at c.args.roles.now person ++ role_if b c.args.capacity c.args.member)
     (ap (λ persons. are_in persons person) (take_all c.loop-person.person-index items c.loop-person-test.false ∙ c.deref-person-items.ensures.value)
     ∙ are_in-is_member c.in_order_once-each.result.items person
-    ∙ c.in_order_once-each.ensures.kept person
+    ∙ c.in_order_once-each.ensures.same_members person
     ∙ sym (are_in-is_member c.args.persons.items person))

@@ -6,7 +6,7 @@ use Rattle.vocabulary.specs.declared.kinds.Capacity.TheVariants.{Member, Rep, Pr
 use Rattle.proxy_rules.specs.Holdings.{IsValidHolding, holding_by}
 use Rattle.proxy_rules.specs.Shares.{is_corporation, is_individual}
 use Rattle.proxy_rules.specs.declared.holdings.Holding.{Holding}
-use Rattle.proxy_rules.proofs.ProxyKeptLemmas.{kept_by}
+use Rattle.proxy_rules.proofs.ProxyValidLemmas.{valid_by}
 use Rattle.poll_rules.specs.GatheredItems.{are_in, items_at}
 use Rattle.poll_rules.specs.Roles.{has_authority, is_proxy_in, role_if}
 use Rattle.poll_rules.proofs.roles.give_roles.Goals as goal
@@ -14,7 +14,7 @@ use Rattle.poll_rules.proofs.roles.give_roles.Goals as goal
 pub proxies-requires : goal.proxies-requires
 proxies-requires c =
     let papers = c.args.papers.now in
-    subst (λ (h : Holding). IsValidHolding h) (sym c.in_ok-holding.ensures) (kept_by papers.appointments.now papers.endings.now c.args.row.now c.requires.numbered c.requires.tags c.requires.few)
+    subst (λ (h : Holding). IsValidHolding h) (sym c.in_ok-holding.ensures) (valid_by papers.appointments.now papers.endings.now c.args.row.now c.requires.numbered c.requires.tags c.requires.few)
 
 pub returns : goal.returns
 returns c =

@@ -8,7 +8,7 @@ use Rattle.proxy_rules.proofs.alone.runs_left.Goals as goal
 pub loop-next-init : goal.loop-next-init
 loop-next-init c =
     let a = c.args in
-    let ends = range_ends a.range.from a.range.to c.from-next.ensures.kept in
+    let ends = range_ends a.range.from a.range.to c.from-next.ensures.valid in
     let first = c.from-next.ensures.value in
     record {
       begun = omega (arith, first);
@@ -19,7 +19,7 @@ loop-next-init c =
 pub loop-next-preserved-in-Some : goal.loop-next-preserved-in-Some
 loop-next-preserved-in-Some c =
     let a = c.args in
-    let ends = range_ends a.range.from a.range.to c.from-next.ensures.kept in
+    let ends = range_ends a.range.from a.range.to c.from-next.ensures.valid in
     let before = c.loop-next.invariant in
     let inside : c.loop-next.next ≤ a.range.to = grind (arith, nat_tests, c.loop-next-test.true, c.to.ensures.value) in
     let taken = c.in-Some.ensures.some in
@@ -32,7 +32,7 @@ loop-next-preserved-in-Some c =
 pub loop-next-preserved : goal.loop-next-preserved
 loop-next-preserved c =
     let a = c.args in
-    let ends = range_ends a.range.from a.range.to c.from-next.ensures.kept in
+    let ends = range_ends a.range.from a.range.to c.from-next.ensures.valid in
     let before = c.loop-next.invariant in
     let within = c.free_to-end.ensures.within in
     let last = c.to-in-None.ensures.value in

@@ -1,6 +1,6 @@
 use Rattle.std.proofs.Common.{ap, sym, ◌∙◌}
 use Rattle.std.specs.Option.{option_copied}
-use Rattle.seq.proofs.Kept.{none-found}
+use Rattle.seq.proofs.Filtered.{none-found}
 use Rattle.vocabulary.specs.Places.{Places}
 use Rattle.proxy_rules.specs.Governing.{is_over}
 use Rattle.proxy_rules.proofs.AloneLemmas.{taken_through}

@@ -3,8 +3,8 @@ use Rattle.std.proofs.lemmas.Result.{IfOk-weaker}
 use Rattle.proxy_rules.specs.declared.holdings.Holding.{Holding}
 use Rattle.proxy_rules.specs.Governing.{governed_in}
 use Rattle.proxy_rules.specs.Holdings.{IsValidHolding, claims_of, holding_of}
-use Rattle.proxy_rules.proofs.ClaimLemmas.{claims_kept, governed_alike}
-use Rattle.proxy_rules.proofs.ProxyKeptLemmas.{kept_of}
+use Rattle.proxy_rules.proofs.ClaimLemmas.{claims_valid, governed_alike}
+use Rattle.proxy_rules.proofs.ProxyValidLemmas.{valid_of}
 use Rattle.proxy_rules.proofs.runs.governed.Goals as goal
 
 pub governed_by-requires : goal.governed_by-requires
@@ -12,7 +12,7 @@ governed_by-requires c =
     let papers = c.args.papers.now in
     let holding = holding_of papers.register.now papers.appointments.now papers.endings.now c.args.member in
     subst (λ (h : Holding). IsValidHolding h) (sym (c.in_ok-of.ensures ∙ ap claims_of c.in_ok-holding.ensures))
-    (claims_kept holding (kept_of papers.register.now papers.appointments.now papers.endings.now c.args.member c.requires.rows c.requires.numbered c.requires.tags))
+    (claims_valid holding (valid_of papers.register.now papers.appointments.now papers.endings.now c.args.member c.requires.rows c.requires.numbered c.requires.tags))
 
 pub returns : goal.returns
 returns c =

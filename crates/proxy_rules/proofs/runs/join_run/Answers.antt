@@ -19,9 +19,9 @@ returns-in_ok-push-in-Some-2 c =
     let runs = c.args.runs.now in
     let last = c.in-Some.last.now in
     let some = c.in-Some.ensures.variant.0 refl in
-    let kept : set runs.items (vec_len runs - 1) last ≡ runs.items = ap (set runs.items (vec_len runs - 1)) c.in-Some.ensures.value ∙ set-get_or runs.items (vec_len runs - 1) last in
+    let valid : set runs.items (vec_len runs - 1) last ≡ runs.items = ap (set runs.items (vec_len runs - 1)) c.in-Some.ensures.value ∙ set-get_or runs.items (vec_len runs - 1) last in
     c.in_ok-push-in-Some-2.ensures.items
-    ∙ ap (λ l. l ++ c.args.run ∷ []) kept
+    ∙ ap (λ l. l ++ c.args.run ∷ []) valid
     ∙ push-joined runs.items last c.args.run (vec_len runs - 1) (omega (arith, runs.ok.0, some)) c.in-Some.ensures.value
     (λ ends. c.if-to-from.false (c_ends c.to.result c.from.result last.to c.args.run.from c.to.ensures.value c.from.ensures.value ends))
   where

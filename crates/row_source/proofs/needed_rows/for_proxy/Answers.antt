@@ -13,4 +13,4 @@ pub returns : goal.returns
 returns g c =
     let w = g.met.R.RowSource in
     holds_so _ _ _ _ _ _ _ c.in_ok-casts.casts _ _ _ (holds_both _ _ _ _ _ w.still_shows w.was_trusted w.keeps_then w.leaves_then _ _ _ c.in_ok-named.named c.in_ok-casts.casts _ _ c.in_ok-named.ensures c.in_ok-casts.ensures)
-    (λ found p. (λ i. record (c.no_rows_of.ensures i) { received = (p.0 i).received; members = (p.0 i).members; casts = p.1 i }))
+    (λ found p. (λ i. record (c.no_own_rows.ensures i) { received = (p.0 i).received; members = (p.0 i).members; casts = p.1 i }))

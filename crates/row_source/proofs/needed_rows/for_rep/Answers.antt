@@ -13,4 +13,4 @@ pub returns : goal.returns
 returns g c =
     let w = g.met.R.RowSource in
     holds_so _ _ _ _ _ _ _ c.in_ok-casts.casts _ _ _ (holds_both _ _ _ _ _ w.still_shows w.was_trusted w.keeps_then w.leaves_then _ _ _ c.in_ok-authorised.authorised c.in_ok-casts.casts _ _ c.in_ok-authorised.ensures c.in_ok-casts.ensures)
-    (λ found p. (λ i. record (c.no_rows_of.ensures i) { authorised = p.0 i; casts = p.1 i }))
+    (λ found p. (λ i. record (c.no_own_rows.ensures i) { authorised = p.0 i; casts = p.1 i }))

@@ -14,4 +14,4 @@ pub returns : goal.returns
 returns g c =
     let w = g.met.R.RowSource in
     holds_so _ _ _ _ _ _ _ c.in_ok-ended.ended _ _ _ (holds_both _ _ _ _ _ w.still_shows w.was_trusted w.keeps_then w.leaves_then _ _ _ c.in_ok-given.given c.in_ok-ended.ended _ _ c.in_ok-given.ensures c.in_ok-ended.ensures)
-    (λ found p. (λ i. record (c.no_rows_of.ensures i) { given = p.0 i; ended = p.1 i }) ∙ given_are found c.args.party)
+    (λ found p. (λ i. record (c.no_own_rows.ensures i) { given = p.0 i; ended = p.1 i }) ∙ given_are found c.args.party)

@@ -7,4 +7,4 @@ pub returns : goal.returns
 returns g c =
     let w = g.met.R.RowSource in
     holds_so _ _ _ _ _ _ _ c.in_ok-presences_of.field-0 _ _ _ c.in_ok-presences_of.ensures
-    (λ found p. c.no_rows_of.ensures ∙ nothing_is found c.args.party)
+    (λ found p. c.no_own_rows.ensures ∙ nothing_is found c.args.party)

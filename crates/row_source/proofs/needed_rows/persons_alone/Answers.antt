@@ -7,4 +7,4 @@ pub returns : goal.returns
 returns g c =
     let w = g.met.R.RowSource in
     holds_so _ _ _ _ _ _ _ c.in_ok-persons.persons _ _ _ c.in_ok-persons.ensures
-    (λ found p. (λ i. record (c.no_rows_of.ensures i) { persons = p i }) ∙ persons_are found c.args.party)
+    (λ found p. (λ i. record (c.no_own_rows.ensures i) { persons = p i }) ∙ persons_are found c.args.party)

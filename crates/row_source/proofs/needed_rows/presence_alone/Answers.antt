@@ -7,4 +7,4 @@ pub returns : goal.returns
 returns g c =
     let w = g.met.R.RowSource in
     holds_so _ _ _ _ _ _ _ c.in_ok-presences.presences _ _ _ c.in_ok-presences.ensures
-    (λ found p. (λ i. record (c.no_rows_of.ensures i) { presences = p i }) ∙ presence_is found c.args.party)
+    (λ found p. (λ i. record (c.no_own_rows.ensures i) { presences = p i }) ∙ presence_is found c.args.party)

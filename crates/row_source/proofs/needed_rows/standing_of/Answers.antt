@@ -11,7 +11,7 @@ individual own = holds_as_individual own.row
 pub returns-then-holds_as_individual : goal.returns-then-holds_as_individual
 returns-then-holds_as_individual g c =
     holds_so _ _ _ _ _ _ _ c.in_ok-row.field-0 _ _ _ c.in_ok-row.ensures
-    (λ found p. (λ i. record (c.no_rows_of.ensures i) { row = (p i).row; presences = (p i).presences; demands = (p i).demands })
+    (λ found p. (λ i. record (c.no_own_rows.ensures i) { row = (p i).row; presences = (p i).presences; demands = (p i).demands })
     ∙ standing_alone found c.args.party (sym (ap individual p) ∙ sym c.holds_as_individual.ensures ∙ c.if-holds_as_individual.true))
 
 pub returns-in_err-received : goal.returns-in_err-received
@@ -25,5 +25,5 @@ pub returns : goal.returns
 returns g c =
     let w = g.met.R.RowSource in
     holds_so _ _ _ _ _ _ _ c.in_ok-received.field-0 _ _ _ (holds_both _ _ _ _ _ w.still_shows w.was_trusted w.keeps_then w.leaves_then _ _ _ c.in_ok-row.field-0 c.in_ok-received.field-0 _ _ c.in_ok-row.ensures c.in_ok-received.ensures)
-    (λ found p. (λ i. record (c.no_rows_of-2.ensures i) { received = (p.1 i).received; members = (p.1 i).members; authorised = (p.1 i).authorised; row = (p.0 i).row; presences = (p.0 i).presences; demands = (p.0 i).demands })
+    (λ found p. (λ i. record (c.no_own_rows-2.ensures i) { received = (p.1 i).received; members = (p.1 i).members; authorised = (p.1 i).authorised; row = (p.0 i).row; presences = (p.0 i).presences; demands = (p.0 i).demands })
     ∙ standing_are found c.args.party (sym (ap individual p.0) ∙ sym c.holds_as_individual.ensures ∙ c.if-holds_as_individual.false))

@@ -22,8 +22,8 @@ module _ (g : _) (c : goal.After-dedup g) where
   strict : IsStrictlySortedBy g.T.Ord.cmp c.dedup.new.self.items
   strict = subst (IsStrictlySortedBy g.T.Ord.cmp) (sym left) (IsStrictlySortedBy-dedup g.met.T.Ord.total g.met.T.Ord.matches_eq c.sort_unstable.new.self.items c.sort_unstable.ensures.sorted)
 
-  kept : (x : _) → is_member (eq_by_cmp g.T.Ord.cmp) c.dedup.new.self.items x ≡ is_member (eq_by_cmp g.T.Ord.cmp) c.args.values.items x
-  kept x =
+  preserved : (x : _) → is_member (eq_by_cmp g.T.Ord.cmp) c.dedup.new.self.items x ≡ is_member (eq_by_cmp g.T.Ord.cmp) c.args.values.items x
+  preserved x =
       ap (list_any (eq_by_cmp g.T.Ord.cmp x)) left
       ∙ list_any-dedup g.T.PartialEq.eq (eq_by_cmp g.T.Ord.cmp x)
       (λ a b same. ap is_eq (alike_right g.met.T.Ord.total a b x ((Equal-is (g.T.Ord.cmp a b)).0 (sym (g.met.T.Ord.matches_eq a b) ∙ same))))
@@ -40,13 +40,13 @@ returns-clause-drawn g c =
     let has : Contains (dedup g.T.PartialEq.eq c.sort_unstable.new.self.items) x = subst (λ l. Contains l x) (left g c) (Contains-get_or c.dedup.new.self.items k d within) in
     Contains-permutation c.sort_unstable.new.self.items c.args.values.items x (IsPermutation-sym _ _ c.sort_unstable.ensures.permutation) (Contains-from_dedup g.T.PartialEq.eq c.sort_unstable.new.self.items x has)
 
-pub returns-clause-kept : goal.returns-clause-kept
-returns-clause-kept g c = kept g c
+pub returns-clause-same_members : goal.returns-clause-same_members
+returns-clause-same_members g c = preserved g c
 
 pub returns-clause-count : goal.returns-clause-count
 returns-clause-count g c =
     c.dedup.new.self.ok.0
-    ∙ length-from_keys (eq_by_cmp_equiv g.met.T.Ord.total) c.dedup.new.self.items c.args.values.items (IsDistinct-from_sorted g.T.Ord.cmp c.dedup.new.self.items (strict g c)) (kept g c)
+    ∙ length-from_keys (eq_by_cmp_equiv g.met.T.Ord.total) c.dedup.new.self.items c.args.values.items (IsDistinct-from_sorted g.T.Ord.cmp c.dedup.new.self.items (strict g c)) (preserved g c)
 
 pub returns-clause-same_values : goal.returns-clause-same_values
-returns-clause-same_values g c = λ exact. Contains-from_is_member g.T.Ord.cmp exact g.met.T.Ord.total c.dedup.new.self.items c.args.values.items (kept g c)
+returns-clause-same_values g c = λ exact. Contains-from_is_member g.T.Ord.cmp exact g.met.T.Ord.total c.dedup.new.self.items c.args.values.items (preserved g c)

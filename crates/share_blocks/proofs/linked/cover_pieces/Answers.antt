@@ -11,7 +11,7 @@ tag_piece-requires-clause-linked c =
     let es = c.args.newest.now.entries in
     subst (λ newest. AreLinked newest c.reserve.new.self.items) (sym c.in_ok-part_off.ensures.ok)
     (subst (λ nodes. AreLinked (split_after c.args.range.to (split_before c.args.range.from es)) nodes) (sym c.reserve.ensures.items)
-    (linked-parted_off es c.args.nodes.now.items c.args.range c.requires c.from.ensures.kept))
+    (linked-parted_off es c.args.nodes.now.items c.args.range c.requires c.from.ensures.valid))
 
 -- the pieces that begin past the first place
 later : (c : goal.After-drop-later-2) → c.as_slice.result.now ≡ begins_past c.args.range c.args.newest.now.entries
@@ -40,7 +40,7 @@ whole : (c : goal.After-drop-later-2) → linked_pieces c.tag_pieces.new.newest.
 whole c =
     let es = c.args.newest.now.entries in
     let range = c.args.range in
-    let r = range_facts range.from range.to c.from.ensures.kept in
+    let r = range_facts range.from range.to c.from.ensures.valid in
     ap (pieces_by 1 []) (marks c)
     ∙ pieces-covered (tags_by (tags_of_nodes c.args.nodes.now.items)) refl range c.args.tag es (rise_of 0 (keys_of es) c.requires.0) r.low r.order r.high
 

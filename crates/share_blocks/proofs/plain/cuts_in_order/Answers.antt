@@ -10,7 +10,7 @@ use Rattle.share_blocks.proofs.plain.cuts_in_order.Goals as goal
 -- the cuts are those at the ends of the covers
 same : (c : goal.After-in_order_once) (q : ℕ) → is_member (eq_by_cmp nat_cmp) c.in_order_once.result.items q ≡ is_member (eq_by_cmp nat_cmp) (flat_map ends_of c.args.covers.now) q
 same c q =
-    c.in_order_once.ensures.kept q
+    c.in_order_once.ensures.same_members q
     ∙ ap (λ cuts. is_member (eq_by_cmp nat_cmp) cuts q)
     (c.loop-range.invariant ∙ ap (flat_map ends_of) (take_all c.loop-range.range-index c.args.covers.now c.loop-range-test.false))
 

@@ -6,7 +6,7 @@ use Rattle.sql_assemble.proofs.ordered_lists.day_list.Goals as goal
 
 pub returns-in-Ok : goal.returns-in-Ok
 returns-in-Ok c =
-    let made = days_made c.in-Ok.days c.in-Some.days.items c.in-Ok.ensures.kept c.in-Some.ensures.ascending c.in-Ok.ensures.days in
+    let made = days_made c.in-Ok.days c.in-Some.days.items c.in-Ok.ensures.valid c.in-Some.ensures.ascending c.in-Ok.ensures.days in
     ap (λ l. Some l) (sym (made ∙ c.in-Some.ensures.some ∙ ap (sort_by day_before) c.into_vec.ensures))
 
 pub returns-in-Err : goal.returns-in-Err

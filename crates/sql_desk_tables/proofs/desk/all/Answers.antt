@@ -7,8 +7,8 @@ pub returns-clause-rows : goal.returns-clause-rows
 returns-clause-rows g c = λ clean noted.
     reads (λ v. v.items) (state g.S.Store c.args.tx.now.conn.now) (state g.S.Store c.query_all.new.self.conn.now) c.query_all.result noted (c.query_all.ensures.ok clean)
 
-pub returns-clause-kept : goal.returns-clause-kept
-returns-clause-kept g c = λ clean noted.
+pub returns-clause-preserved : goal.returns-clause-preserved
+returns-clause-preserved g c = λ clean noted.
     reads_keeps (λ v. v.items) (state g.S.Store c.args.tx.now.conn.now) (state g.S.Store c.query_all.new.self.conn.now) c.query_all.result noted (c.query_all.ensures.ok clean) (c.query_all.ensures.err clean)
 
 pub returns-clause-was_open : goal.returns-clause-was_open

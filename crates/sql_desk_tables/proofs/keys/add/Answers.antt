@@ -13,6 +13,6 @@ returns-clause-added g c =
     c.add_row.ensures.added c.args.key.now
     (rw (c.params-to_sql.ensures, c.params-to_sql-2.ensures) (record {
       cells = values;
-      kept = rw (cast_null) refl;
+      preserved = rw (cast_null) refl;
       means = λ id. rw (c.caller_text.ensures, c.key_text.ensures) refl;
     }))

@@ -10,7 +10,7 @@ returns-clause-rows g c = λ read.
 
 pub returns-clause-changes : goal.returns-clause-changes
 returns-clause-changes g c = record {
-  kept = λ read.
+  preserved = λ read.
       find_keeps (λ v. v.items) c.key_text.result.now (state g.S.Store c.args.tx.now.conn.now) (state g.S.Store c.query_all.new.self.conn.now) c.query_all.result read.1
       (rw c.params-to_sql.ensures at (c.query_all.ensures.ok read.0)) (rw c.params-to_sql.ensures at (c.query_all.ensures.err read.0));
   was_open = λ clean.

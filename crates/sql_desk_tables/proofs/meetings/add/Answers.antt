@@ -2,7 +2,7 @@ use Rattle.std.proofs.Common.{◌≡◌, [], ◌∷◌, refl, w64, rules, to_z, 
 use Rattle.sqlite.specs.declared.types.Value.TheVariants.{Null, Int, Text}
 use Rattle.sqlite.specs.Order.{Row}
 use Rattle.sqlite.specs.Values.{or_null}
-use Rattle.sql_lemmas.proofs.Values.{bound_some, cast_flag, cast_int, cast_null, cast_some, flag, flag_kept}
+use Rattle.sql_lemmas.proofs.Values.{bound_some, cast_flag, cast_int, cast_null, cast_some, flag, flag_reads_back}
 use Rattle.sql_rows.specs.ColumnValues.{day_in, flag_in, moment_in, number_in, some_moment_in, parsed_in, parsed_word_in}
 use Rattle.sql_rows.specs.Meetings.{meeting_in}
 use Rattle.sql_schema.specs.Contents.{without_resolutions}
@@ -18,6 +18,6 @@ returns-clause-added g c =
     c.add_row.ensures.added (without_resolutions c.args.meeting.now)
     (rw (c.params-to_sql.ensures, c.params-to_sql-2.ensures, c.params-to_sql-3.ensures, c.params-to_sql-4.ensures, c.params-to_sql-5.ensures, c.params-to_sql-6.ensures, c.params-to_sql-7.ensures, c.params-to_sql-8.ensures, bound_some c.some_moment_number.result, same_0, same_1, same_2) (record {
       cells = Null ∷ values;
-      kept = rw (cast_null, cast_int c.day_number.result, cast_int c.moment_number.result, cast_int c.moment_number-2.result, cast_flag c.args.meeting.now.loaded, cast_some c.some_moment_number.result) refl;
-      means = λ id. rw (c.meeting_text.ensures, c.company_text.ensures, c.meeting_kind_text.ensures, c.day_number.ensures, c.moment_number.ensures, c.moment_number-2.ensures, c.some_moment_number.ensures, flag_kept c.args.meeting.now.loaded) refl;
+      preserved = rw (cast_null, cast_int c.day_number.result, cast_int c.moment_number.result, cast_int c.moment_number-2.result, cast_flag c.args.meeting.now.loaded, cast_some c.some_moment_number.result) refl;
+      means = λ id. rw (c.meeting_text.ensures, c.company_text.ensures, c.meeting_kind_text.ensures, c.day_number.ensures, c.moment_number.ensures, c.moment_number-2.ensures, c.some_moment_number.ensures, flag_reads_back c.args.meeting.now.loaded) refl;
     }))

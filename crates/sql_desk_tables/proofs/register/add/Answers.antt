@@ -15,6 +15,6 @@ returns-clause-added g c =
     c.add_row.ensures.added (record { meeting = c.args.meeting; item = c.args.holding.now })
     (rw (c.params-to_sql.ensures, c.params-to_sql-2.ensures, c.params-to_sql-3.ensures, c.params-to_sql-4.ensures, c.params-to_sql-5.ensures, c.params-to_sql-6.ensures, same_0, same_1) (record {
       cells = values;
-      kept = rw (cast_null, cast_int c.in_ok-shares.shares, cast_int c.in_ok-paid.paid) refl;
-      means = λ id. rw (c.meeting_text.ensures, c.party_text.ensures, c.holder_kind_text.ensures, c.text_value.ensures, c.in_ok-shares.ensures.kept, c.in_ok-paid.ensures.kept) refl;
+      preserved = rw (cast_null, cast_int c.in_ok-shares.shares, cast_int c.in_ok-paid.paid) refl;
+      means = λ id. rw (c.meeting_text.ensures, c.party_text.ensures, c.holder_kind_text.ensures, c.text_value.ensures, c.in_ok-shares.ensures.reads_back, c.in_ok-paid.ensures.reads_back) refl;
     }))

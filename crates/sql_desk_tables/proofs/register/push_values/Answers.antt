@@ -23,6 +23,6 @@ returns c =
     let values : bound (one ∷ two ∷ three ∷ four ∷ five ∷ []) ≡ values_row v =
     rw (c.to_sql.ensures, c.to_sql-2.ensures, c.to_sql-3.ensures, c.to_sql-4.ensures, c.to_sql-5.ensures, same_0, same_1) refl in (
       v,
-      record { member = c.party_text.ensures; kind = c.holder_kind_text.ensures; name = c.text_value.ensures; shares = c.in_ok-shares.ensures.kept; paid = c.in_ok-paid.ensures.kept },
+      record { member = c.party_text.ensures; kind = c.holder_kind_text.ensures; name = c.text_value.ensures; shares = c.in_ok-shares.ensures.reads_back; paid = c.in_ok-paid.ensures.reads_back },
       ap bound all ∙ map-append _ was (one ∷ two ∷ three ∷ four ∷ five ∷ []) ∙ ap (λ l. bound was ++ l) values,
     )

@@ -14,6 +14,6 @@ returns-clause-added g c =
     c.add_row.ensures.added (record { meeting = c.args.meeting; item = record { number = c.args.number; item = c.args.resolution.now } })
     (rw (c.params-to_sql.ensures, c.params-to_sql-2.ensures, c.params-to_sql-3.ensures, c.params-to_sql-4.ensures, same_0) (record {
       cells = values;
-      kept = rw (cast_null, cast_int c.in_ok-number.number) refl;
-      means = λ id. rw (c.meeting_text.ensures, c.in_ok-number.ensures.kept, c.resolution_kind_text.ensures, c.text_value.ensures) refl;
+      preserved = rw (cast_null, cast_int c.in_ok-number.number) refl;
+      means = λ id. rw (c.meeting_text.ensures, c.in_ok-number.ensures.reads_back, c.resolution_kind_text.ensures, c.text_value.ensures) refl;
     }))

@@ -2,11 +2,11 @@ use Rattle.std.proofs.Common.{refl}
 use Rattle.sql_schema.specs.Contents as table
 use Rattle.sql_model.proofs.ListChanges.{list_of}
 use Rattle.sql_model.proofs.Names.ListName.{Demands}
-use Rattle.sql_load_public.proofs.FoundRecordLemmas.{items_told}
+use Rattle.sql_load_public.proofs.FoundRecordLemmas.{items_returned}
 use Rattle.sql_load_public.proofs.NamedMeetingLemmas.{list_is}
 use Rattle.sql_load_meeting.proofs.by_receipt.demands_of.Goals as goal
 
 pub returns-clause-holds : goal.returns-clause-holds
 returns-clause-holds g c =
-    items_told g.S.Store c.args.tx.now.conn.now c.find.new.tx.conn.now (λ v. v.items) table.demands (λ flat. flat.demands) (λ trees flat held. held.demands) _ c.find.result c.find.ensures.rows c.find.ensures.changes
-    c.records_found.result c.records_found.ensures c.filed.result c.filed.ensures _ (λ flat office of kept. list_is (list_of Demands) refl flat office c.args.meeting of)
+    items_returned g.S.Store c.args.tx.now.conn.now c.find.new.tx.conn.now (λ v. v.items) table.demands (λ flat. flat.demands) (λ trees flat held. held.demands) _ c.find.result c.find.ensures.rows c.find.ensures.changes
+    c.records_found.result c.records_found.ensures c.filed.result c.filed.ensures _ (λ flat office of preserved. list_is (list_of Demands) refl flat office c.args.meeting of)

@@ -21,4 +21,4 @@ pub returns-clause-holds : goal.returns-clause-holds
 returns-clause-holds g c =
     holds_so g.S.Store _ _ _ _ c.in_ok-add_presences.field-0 _
     (holds_both g.S.Store _ _ _ c.in_ok-add_shares.field-0 c.in_ok-add_presences.field-0 _ _ (holds_both g.S.Store _ _ _ c.in_ok-closed.closed c.in_ok-add_shares.field-0 _ _ (c.in_ok-closed.ensures.holds) (c.in_ok-add_shares.ensures.holds)) (c.in_ok-add_presences.ensures.holds))
-    (λ office kept p. (p.0.0, p.1 ∙ ap (λ (m : MeetingLists). record m { presences = presences_in (meeting_at office c.args.meeting) }) (p.0.1)))
+    (λ office preserved p. (p.0.0, p.1 ∙ ap (λ (m : MeetingLists). record m { presences = presences_in (meeting_at office c.args.meeting) }) (p.0.1)))

@@ -27,7 +27,7 @@ pub returns-clause-holds : goal.returns-clause-holds
 returns-clause-holds g c =
     holds_so g.S.Store _ _ _ _ c.in_ok-add_authorities.field-0 _
     (holds_both g.S.Store _ _ _ c.in_ok-add_endings.field-0 c.in_ok-add_authorities.field-0 _ _ (holds_both g.S.Store _ _ _ c.in_ok-add_appointments.field-0 c.in_ok-add_endings.field-0 _ _ (holds_both g.S.Store _ _ _ c.in_ok-add_register.field-0 c.in_ok-add_appointments.field-0 _ _ (c.in_ok-add_register.ensures.holds) (c.in_ok-add_appointments.ensures.holds)) (c.in_ok-add_endings.ensures.holds)) (c.in_ok-add_authorities.ensures.holds))
-    (λ office kept p.
+    (λ office preserved p.
     let found = meeting_at office c.args.meeting in
     p.1 ∙ ap (λ (m : MeetingLists). record m { authorities = authorities_in found })
     (p.0.1 ∙ ap (λ (m : MeetingLists). record m { endings = endings_in found })

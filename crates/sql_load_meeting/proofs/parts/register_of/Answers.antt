@@ -9,7 +9,7 @@ use Rattle.sql_model.proofs.ListChanges.{list_of}
 use Rattle.sql_model.proofs.Names.ListName.{Register}
 use Rattle.desk_words.specs.Office.{are_rows}
 use Rattle.row_source.specs.LookUps.{register_in}
-use Rattle.sql_load_public.proofs.FoundRecordLemmas.{items_told, yields_tell}
+use Rattle.sql_load_public.proofs.FoundRecordLemmas.{items_returned, yields_return}
 use Rattle.sql_load_public.proofs.NamedMeetingLemmas.{list_is}
 use Rattle.sql_load_public.proofs.StoredOfficeLemmas.{holds_so, holds_stop}
 use Rattle.sql_load_meeting.proofs.LoadedMeetingPartLemmas.{register_right}
@@ -23,12 +23,12 @@ pub returns-in_err-rows-clause-holds : goal.returns-in_err-rows-clause-holds
 returns-in_err-rows-clause-holds g c =
     let is : c.from_residual.result ≡ Err c.in_err-rows.field-0.0 = search rules in
     holds_stop g.S.Store _ _ (AreRows c.args.meeting) _ c.in_err-rows.field-0.0 c.from_residual.result is
-    (items_told g.S.Store c.args.tx.now.conn.now c.find.new.tx.conn.now (λ v. v.items) table.register (λ flat. flat.register) (λ trees flat held. held.register) _ c.find.result c.find.ensures.rows c.find.ensures.changes c.records_found.result c.records_found.ensures
-    (Err c.in_err-rows.field-0.0) c.in_err-rows.ensures (AreRows c.args.meeting) (λ flat office of kept. list_is (list_of Register) refl flat office c.args.meeting of))
+    (items_returned g.S.Store c.args.tx.now.conn.now c.find.new.tx.conn.now (λ v. v.items) table.register (λ flat. flat.register) (λ trees flat held. held.register) _ c.find.result c.find.ensures.rows c.find.ensures.changes c.records_found.result c.records_found.ensures
+    (Err c.in_err-rows.field-0.0) c.in_err-rows.ensures (AreRows c.args.meeting) (λ flat office of preserved. list_is (list_of Register) refl flat office c.args.meeting of))
 
 pub returns-clause-holds : goal.returns-clause-holds
 returns-clause-holds g c =
     holds_so g.S.Store _ _ (AreRows c.args.meeting) _ c.in_ok-rows.rows c.register_rows.result
-    (items_told g.S.Store c.args.tx.now.conn.now c.find.new.tx.conn.now (λ v. v.items) table.register (λ flat. flat.register) (λ trees flat held. held.register) _ c.find.result c.find.ensures.rows c.find.ensures.changes c.records_found.result c.records_found.ensures
-    _ c.in_ok-rows.ensures (AreRows c.args.meeting) (λ flat office of kept. list_is (list_of Register) refl flat office c.args.meeting of))
-    (λ office kept rows. yields_tell are_rows c.register_rows.result (register_in (meeting_named office.meetings c.args.meeting)) _ c.register_rows.ensures (ap (λ l. Some l) rows) (register_right office c.args.meeting kept))
+    (items_returned g.S.Store c.args.tx.now.conn.now c.find.new.tx.conn.now (λ v. v.items) table.register (λ flat. flat.register) (λ trees flat held. held.register) _ c.find.result c.find.ensures.rows c.find.ensures.changes c.records_found.result c.records_found.ensures
+    _ c.in_ok-rows.ensures (AreRows c.args.meeting) (λ flat office of preserved. list_is (list_of Register) refl flat office c.args.meeting of))
+    (λ office preserved rows. yields_return are_rows c.register_rows.result (register_in (meeting_named office.meetings c.args.meeting)) _ c.register_rows.ensures (ap (λ l. Some l) rows) (register_right office c.args.meeting preserved))

@@ -7,7 +7,7 @@ use Rattle.row_source.specs.LookUps.{casts_in}
 use Rattle.sql_schema.specs.Contents as table
 use Rattle.sql_model.proofs.ListChanges.{list_of}
 use Rattle.sql_model.proofs.Names.ListName.{Casts}
-use Rattle.sql_load_public.proofs.FoundRecordLemmas.{items_told, received_so}
+use Rattle.sql_load_public.proofs.FoundRecordLemmas.{items_returned, received_so}
 use Rattle.sql_load_party.proofs.LoadedPartyRowLemmas.{both_pass}
 use Rattle.sql_load_party.proofs.look_ups.casts_on.Goals as goal
 
@@ -15,8 +15,8 @@ pub returns-clause-holds : goal.returns-clause-holds
 returns-clause-holds g c =
     let by = is_cast_by c.args.party in
     let on = λ (x : CastMark). x.resolution == c.args.resolution in
-    items_told g.S.Store c.args.tx.now.conn.now c.find.new.tx.conn.now (λ v. v.items) table.casts (λ flat. flat.casts) (λ trees flat held. held.casts) _ c.find.result c.find.ensures.rows c.find.ensures.changes
+    items_returned g.S.Store c.args.tx.now.conn.now c.find.new.tx.conn.now (λ v. v.items) table.casts (λ flat. flat.casts) (λ trees flat held. held.casts) _ c.find.result c.find.ensures.rows c.find.ensures.changes
     c.records_found.result c.records_found.ensures c.items.result c.items.ensures _
-    (λ flat office of kept.
+    (λ flat office of preserved.
     let casts = casts_in (meeting_at office c.args.meeting) in
     received_so (list_of Casts) (λ l. refl) c.args.meeting (λ (x : CastMark). by x && on x) flat office of ∙ both_pass by on casts ∙ filter-swap by on casts)

@@ -10,5 +10,5 @@ use Rattle.sql_load_party.proofs.look_ups.naming_by.Goals as goal
 pub returns-clause-holds : goal.returns-clause-holds
 returns-clause-holds g c =
     holds_so g.S.Store _ _ _ _ c.in_ok-given.given _ c.in_ok-given.ensures.holds
-    (λ office kept given.
+    (λ office preserved given.
     c.naming_among.ensures ∙ ap (filter (names c.args.party)) given ∙ filter-swap (names c.args.party) (is_given_by c.args.member) (appointments_in (meeting_at office c.args.meeting)))

@@ -9,4 +9,4 @@ use Rattle.sql_load_party.proofs.look_ups.shares_of.Goals as goal
 pub returns-clause-holds : goal.returns-clause-holds
 returns-clause-holds g c =
     holds_so g.S.Store _ _ _ _ c.in_ok-row.row _ c.in_ok-row.ensures.holds
-    (λ office kept row. c.shares_in.ensures ∙ ap (λ (r : Option RegisterRow). option_map_or shares_of r 0) row)
+    (λ office preserved row. c.shares_in.ensures ∙ ap (λ (r : Option RegisterRow). option_map_or shares_of r 0) row)

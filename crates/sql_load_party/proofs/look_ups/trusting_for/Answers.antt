@@ -6,12 +6,12 @@ use Rattle.row_source.specs.LookUps.{authorities_in}
 use Rattle.sql_schema.specs.Contents as table
 use Rattle.sql_model.proofs.ListChanges.{list_of}
 use Rattle.sql_model.proofs.Names.ListName.{Authorities}
-use Rattle.sql_load_public.proofs.FoundRecordLemmas.{items_told, received_so}
+use Rattle.sql_load_public.proofs.FoundRecordLemmas.{items_returned, received_so}
 use Rattle.sql_load_party.proofs.LoadedPartyRowLemmas.{both_pass}
 use Rattle.sql_load_party.proofs.look_ups.trusting_for.Goals as goal
 
 pub returns-clause-holds : goal.returns-clause-holds
 returns-clause-holds g c =
-    items_told g.S.Store c.args.tx.now.conn.now c.find.new.tx.conn.now (λ v. v.items) table.authorities (λ flat. flat.authorities) (λ trees flat held. held.authorities) _ c.find.result c.find.ensures.rows c.find.ensures.changes
+    items_returned g.S.Store c.args.tx.now.conn.now c.find.new.tx.conn.now (λ v. v.items) table.authorities (λ flat. flat.authorities) (λ trees flat held. held.authorities) _ c.find.result c.find.ensures.rows c.find.ensures.changes
     c.records_found.result c.records_found.ensures c.items.result c.items.ensures _
-    (λ flat office of kept. received_so (list_of Authorities) (λ l. refl) c.args.meeting (λ (a : Authority). is_authority_of c.args.corporation a && authorises c.args.party a) flat office of ∙ both_pass (is_authority_of c.args.corporation) (authorises c.args.party) (authorities_in (meeting_at office c.args.meeting)))
+    (λ flat office of preserved. received_so (list_of Authorities) (λ l. refl) c.args.meeting (λ (a : Authority). is_authority_of c.args.corporation a && authorises c.args.party a) flat office of ∙ both_pass (is_authority_of c.args.corporation) (authorises c.args.party) (authorities_in (meeting_at office c.args.meeting)))

@@ -23,4 +23,4 @@ returns-clause-holds g c =
     holds_so g.S.Store _ _ (AreLast c.args.meeting) _ c.in_ok-rows.rows _
     (last_holds g.S.Store c.args.tx.now.conn.now c.last_of_meeting.new.tx.conn.now (λ v. v.items) table.resolutions (λ flat. flat.resolutions) (λ trees flat held. held.resolutions) (λ (it : Stored). same_name it.meeting c.args.meeting) number_of c.last_of_meeting.result c.last_of_meeting.ensures.rows c.last_of_meeting.ensures.changes
     _ c.in_ok-rows.ensures (AreLast c.args.meeting) (count_so c.args.meeting))
-    (λ office kept last m found. c.last_number.ensures ∙ ap last_number c.as_slice.ensures ∙ last m found)
+    (λ office preserved last m found. c.last_number.ensures ∙ ap last_number c.as_slice.ensures ∙ last m found)

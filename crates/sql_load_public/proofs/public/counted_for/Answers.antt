@@ -1,6 +1,6 @@
 use Rattle.std.proofs.Common.{◌≡◌, Err, rules}
 use Rattle.sql_load_public.proofs.CountedRecordLemmas.{HasCount, IsReadFor, IsUnread, counted_read}
-use Rattle.sql_load_public.proofs.StoredOfficeLemmas.{holds_stop, told_so, told_then}
+use Rattle.sql_load_public.proofs.StoredOfficeLemmas.{holds_stop, returned_so, returned_then}
 use Rattle.sql_load_public.proofs.public.counted_for.Goals as goal
 
 pub returns-in_err-count-clause-holds : goal.returns-in_err-count-clause-holds
@@ -10,6 +10,6 @@ returns-in_err-count-clause-holds g c =
 
 pub returns-clause-holds : goal.returns-clause-holds
 returns-clause-holds g c =
-    told_then g.S.Store _ _ _ c.in_ok-count.count c.unread_of.result (HasCount c.args.meeting) (IsReadFor c.args.meeting c.args.asked.now) c.in_ok-count.ensures.holds
-    (told_so g.S.Store _ _ c.unread_of.result (IsUnread c.args.meeting c.stand_ins.result) (λ office kept. HasCount c.args.meeting office c.in_ok-count.count → IsReadFor c.args.meeting c.args.asked.now office kept)
-    (λ office holds kept is has. counted_read c.args.meeting c.args.asked.now office holds c.in_ok-count.count c.stand_ins.result c.stand_ins.ensures kept is has) c.unread_of.ensures.holds)
+    returned_then g.S.Store _ _ _ c.in_ok-count.count c.unread_of.result (HasCount c.args.meeting) (IsReadFor c.args.meeting c.args.asked.now) c.in_ok-count.ensures.holds
+    (returned_so g.S.Store _ _ c.unread_of.result (IsUnread c.args.meeting c.stand_ins.result) (λ office preserved. HasCount c.args.meeting office c.in_ok-count.count → IsReadFor c.args.meeting c.args.asked.now office preserved)
+    (λ office holds preserved is has. counted_read c.args.meeting c.args.asked.now office holds c.in_ok-count.count c.stand_ins.result c.stand_ins.ensures preserved is has) c.unread_of.ensures.holds)

@@ -6,7 +6,7 @@ use Rattle.sql_rows.specs.declared.stored_records.Numbered.{Numbered}
 use Rattle.sql_schema.specs.Contents as table
 use Rattle.sql_assemble.specs.OwnLists.{are_few, sessions_own}
 use Rattle.sql_load_public.specs.MeetingRecords.{later_in}
-use Rattle.sql_load_public.proofs.FoundRecordLemmas.{items_told, yields_tell}
+use Rattle.sql_load_public.proofs.FoundRecordLemmas.{items_returned, yields_return}
 use Rattle.sql_load_public.proofs.NamedMeetingLemmas.{later_is}
 use Rattle.sql_load_public.proofs.PublicRecordLemmas.{sessions_few}
 use Rattle.sql_load_public.proofs.StoredOfficeLemmas.{holds_so, holds_stop}
@@ -20,12 +20,12 @@ pub returns-in_err-rows-clause-holds : goal.returns-in_err-rows-clause-holds
 returns-in_err-rows-clause-holds g c =
     let is : c.from_residual.result ≡ Err c.in_err-rows.field-0.0 = search rules in
     holds_stop g.S.Store _ _ (AreSessions c.args.meeting) _ c.in_err-rows.field-0.0 c.from_residual.result is
-    (items_told g.S.Store c.args.tx.now.conn.now c.find.new.tx.conn.now (λ v. v.items) table.sessions (λ flat. flat.sessions) (λ trees flat held. held.sessions) _ c.find.result c.find.ensures.rows c.find.ensures.changes c.records_found.result c.records_found.ensures
-    (Err c.in_err-rows.field-0.0) c.in_err-rows.ensures (AreSessions c.args.meeting) (λ flat office of kept. later_is flat office c.args.meeting of))
+    (items_returned g.S.Store c.args.tx.now.conn.now c.find.new.tx.conn.now (λ v. v.items) table.sessions (λ flat. flat.sessions) (λ trees flat held. held.sessions) _ c.find.result c.find.ensures.rows c.find.ensures.changes c.records_found.result c.records_found.ensures
+    (Err c.in_err-rows.field-0.0) c.in_err-rows.ensures (AreSessions c.args.meeting) (λ flat office of preserved. later_is flat office c.args.meeting of))
 
 pub returns-clause-holds : goal.returns-clause-holds
 returns-clause-holds g c =
     holds_so g.S.Store _ _ (AreSessions c.args.meeting) _ c.in_ok-rows.rows c.session_list.result
-    (items_told g.S.Store c.args.tx.now.conn.now c.find.new.tx.conn.now (λ v. v.items) table.sessions (λ flat. flat.sessions) (λ trees flat held. held.sessions) _ c.find.result c.find.ensures.rows c.find.ensures.changes c.records_found.result c.records_found.ensures
-    _ c.in_ok-rows.ensures (AreSessions c.args.meeting) (λ flat office of kept. later_is flat office c.args.meeting of))
-    (λ office kept rows. yields_tell are_few c.session_list.result (later_in (meeting_named office.meetings c.args.meeting)) _ c.session_list.ensures rows (sessions_few office c.args.meeting kept))
+    (items_returned g.S.Store c.args.tx.now.conn.now c.find.new.tx.conn.now (λ v. v.items) table.sessions (λ flat. flat.sessions) (λ trees flat held. held.sessions) _ c.find.result c.find.ensures.rows c.find.ensures.changes c.records_found.result c.records_found.ensures
+    _ c.in_ok-rows.ensures (AreSessions c.args.meeting) (λ flat office of preserved. later_is flat office c.args.meeting of))
+    (λ office preserved rows. yields_return are_few c.session_list.result (later_in (meeting_named office.meetings c.args.meeting)) _ c.session_list.ensures rows (sessions_few office c.args.meeting preserved))

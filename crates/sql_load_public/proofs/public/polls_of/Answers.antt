@@ -7,7 +7,7 @@ use Rattle.desk_words.specs.declared.office.OfficeLists.{OfficeLists}
 use Rattle.desk_words.specs.declared.records.Poll.{Poll}
 use Rattle.sql_schema.specs.Contents as table
 use Rattle.party_views.specs.Views.{polls_in}
-use Rattle.sql_load_public.proofs.FoundRecordLemmas.{items_told, yields_tell}
+use Rattle.sql_load_public.proofs.FoundRecordLemmas.{items_returned, yields_return}
 use Rattle.sql_load_public.proofs.PublicRecordLemmas.{polls_rise, polls_so}
 use Rattle.sql_load_public.proofs.StoredOfficeLemmas.{holds_so, holds_stop}
 use Rattle.sql_load_public.proofs.public.polls_of.Goals as goal
@@ -20,12 +20,12 @@ pub returns-in_err-rows-clause-holds : goal.returns-in_err-rows-clause-holds
 returns-in_err-rows-clause-holds g c =
     let is : c.from_residual.result ≡ Err c.in_err-rows.field-0.0 = search rules in
     holds_stop g.S.Store _ _ (ArePolls c.args.meeting) _ c.in_err-rows.field-0.0 c.from_residual.result is
-    (items_told g.S.Store c.args.tx.now.conn.now c.find.new.tx.conn.now (λ v. v.items) table.polls (λ flat. flat.polls) (λ trees flat held. held.polls) _ c.find.result c.find.ensures.rows c.find.ensures.changes c.records_found.result c.records_found.ensures
-    (Err c.in_err-rows.field-0.0) c.in_err-rows.ensures (ArePolls c.args.meeting) (λ flat office of kept. polls_so c.args.meeting flat office of))
+    (items_returned g.S.Store c.args.tx.now.conn.now c.find.new.tx.conn.now (λ v. v.items) table.polls (λ flat. flat.polls) (λ trees flat held. held.polls) _ c.find.result c.find.ensures.rows c.find.ensures.changes c.records_found.result c.records_found.ensures
+    (Err c.in_err-rows.field-0.0) c.in_err-rows.ensures (ArePolls c.args.meeting) (λ flat office of preserved. polls_so c.args.meeting flat office of))
 
 pub returns-clause-holds : goal.returns-clause-holds
 returns-clause-holds g c =
     holds_so g.S.Store _ _ (ArePolls c.args.meeting) _ c.in_ok-rows.rows c.poll_list.result
-    (items_told g.S.Store c.args.tx.now.conn.now c.find.new.tx.conn.now (λ v. v.items) table.polls (λ flat. flat.polls) (λ trees flat held. held.polls) _ c.find.result c.find.ensures.rows c.find.ensures.changes c.records_found.result c.records_found.ensures
-    _ c.in_ok-rows.ensures (ArePolls c.args.meeting) (λ flat office of kept. polls_so c.args.meeting flat office of))
-    (λ office kept polls. yields_tell (ascends_by poll_before) c.poll_list.result (polls_in (meeting_named office.meetings c.args.meeting)) _ c.poll_list.ensures (ap (λ l. Some l) polls) (polls_rise office c.args.meeting kept))
+    (items_returned g.S.Store c.args.tx.now.conn.now c.find.new.tx.conn.now (λ v. v.items) table.polls (λ flat. flat.polls) (λ trees flat held. held.polls) _ c.find.result c.find.ensures.rows c.find.ensures.changes c.records_found.result c.records_found.ensures
+    _ c.in_ok-rows.ensures (ArePolls c.args.meeting) (λ flat office of preserved. polls_so c.args.meeting flat office of))
+    (λ office preserved polls. yields_return (ascends_by poll_before) c.poll_list.result (polls_in (meeting_named office.meetings c.args.meeting)) _ c.poll_list.ensures (ap (λ l. Some l) polls) (polls_rise office c.args.meeting preserved))

@@ -5,5 +5,5 @@ use Rattle.sql_load_public.proofs.public.read_alone.Goals as goal
 
 pub returns-clause-holds : goal.returns-clause-holds
 returns-clause-holds g c =
-    holds_so g.S.Store _ _ (IsUnread c.args.meeting 1) _ c.in_ok-kept.kept _ c.in_ok-kept.ensures.holds
-    (λ office kept p. c.alone.ensures ∙ (λ i. record { closed = []; meeting = p (λ m found. refl) i; polls = [] }))
+    holds_so g.S.Store _ _ (IsUnread c.args.meeting 1) _ c.in_ok-found.found _ c.in_ok-found.ensures.holds
+    (λ office preserved p. c.alone.ensures ∙ (λ i. record { closed = []; meeting = p (λ m found. refl) i; polls = [] }))

@@ -17,6 +17,6 @@ returns-clause-added g c =
     c.add_row.ensures.added (record { meeting = c.args.meeting; item = c.args.appointment.now })
     (rw (c.params-to_sql.ensures, c.params-to_sql-2.ensures, c.params-to_sql-3.ensures, c.params-to_sql-4.ensures, c.params-to_sql-5.ensures, c.params-to_sql-6.ensures, c.params-to_sql-7.ensures, c.params-to_sql-8.ensures, same_0, same_1, same_2, same_3) (record {
       cells = Null ∷ values;
-      kept = rw (cast_null, cast_int c.in_ok-number.number, cast_int c.range_numbers-first.result.0, cast_int c.range_numbers-first.result.1, cast_int c.moment_number.result) refl;
-      means = λ id. rw (c.meeting_text.ensures, c.party_text.ensures, c.in_ok-number.ensures.kept, c.party_text-2.ensures, c.range_numbers-first.ensures.first, c.range_numbers-first.ensures.last, c.range_numbers-first.ensures.form, c.in_ok-letters.ensures.read_back, c.moment_number.ensures) refl;
+      preserved = rw (cast_null, cast_int c.in_ok-number.number, cast_int c.range_numbers-first.result.0, cast_int c.range_numbers-first.result.1, cast_int c.moment_number.result) refl;
+      means = λ id. rw (c.meeting_text.ensures, c.party_text.ensures, c.in_ok-number.ensures.reads_back, c.party_text-2.ensures, c.range_numbers-first.ensures.first, c.range_numbers-first.ensures.last, c.range_numbers-first.ensures.form, c.in_ok-letters.ensures.read_back, c.moment_number.ensures) refl;
     }))

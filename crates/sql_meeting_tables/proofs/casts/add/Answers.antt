@@ -16,6 +16,6 @@ returns-clause-added g c =
     c.add_row.ensures.added (record { meeting = c.args.meeting; item = c.args.cast.now })
     (rw (c.params-to_sql.ensures, c.params-to_sql-2.ensures, c.params-to_sql-3.ensures, c.params-to_sql-4.ensures, c.params-to_sql-5.ensures, c.params-to_sql-6.ensures, c.params-to_sql-7.ensures, c.params-to_sql-8.ensures, c.params-to_sql-9.ensures, bound_text c.cast_columns-columns.result.member, bound_some c.cast_columns-columns.result.first, bound_some c.cast_columns-columns.result.last, bound_text c.cast_columns-columns.result.way, same_0, same_1) (record {
       cells = Null ∷ values;
-      kept = rw (cast_null, cast_int c.in_ok-resolution.resolution, cast_some_text c.cast_columns-columns.result.member, cast_some c.cast_columns-columns.result.first, cast_some c.cast_columns-columns.result.last, cast_some_text c.cast_columns-columns.result.way, cast_int c.moment_number.result) refl;
-      means = λ id. rw (c.meeting_text.ensures, c.in_ok-resolution.ensures.kept, c.party_text.ensures, c.cast_columns-columns.ensures, c.moment_number.ensures) refl;
+      preserved = rw (cast_null, cast_int c.in_ok-resolution.resolution, cast_some_text c.cast_columns-columns.result.member, cast_some c.cast_columns-columns.result.first, cast_some c.cast_columns-columns.result.last, cast_some_text c.cast_columns-columns.result.way, cast_int c.moment_number.result) refl;
+      means = λ id. rw (c.meeting_text.ensures, c.in_ok-resolution.ensures.reads_back, c.party_text.ensures, c.cast_columns-columns.ensures, c.moment_number.ensures) refl;
     }))

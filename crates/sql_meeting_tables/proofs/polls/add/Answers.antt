@@ -2,7 +2,7 @@ use Rattle.std.proofs.Common.{◌≡◌, [], ◌∷◌, refl, w64, rules, to_z, 
 use Rattle.sqlite.specs.declared.types.Value.TheVariants.{Int, Text}
 use Rattle.sqlite.specs.Order.{Row}
 use Rattle.sqlite.specs.Values.{or_null}
-use Rattle.sql_lemmas.proofs.Values.{bound_some, cast_flag, cast_int, cast_null, cast_some, flag, flag_kept}
+use Rattle.sql_lemmas.proofs.Values.{bound_some, cast_flag, cast_int, cast_null, cast_some, flag, flag_reads_back}
 use Rattle.sql_rows.specs.ColumnValues.{flag_in, moment_in, number_in, some_moment_in, parsed_in}
 use Rattle.sql_rows.specs.Marks.{declared_in, poll_in}
 use Rattle.sql_meeting_tables.proofs.polls.add.Goals as goal
@@ -18,6 +18,6 @@ returns-clause-added g c =
     c.add_row.ensures.added (record { meeting = c.args.meeting; item = c.args.poll.now })
     (rw (c.params-to_sql.ensures, c.params-to_sql-2.ensures, c.params-to_sql-3.ensures, c.params-to_sql-4.ensures, c.params-to_sql-5.ensures, c.params-to_sql-6.ensures, c.params-to_sql-7.ensures, c.params-to_sql-8.ensures, c.params-to_sql-9.ensures, c.params-to_sql-10.ensures, c.params-to_sql-11.ensures, c.params-to_sql-12.ensures, bound_some c.some_moment_number.result, bound_some c.some_moment_number-2.result, bound_some c.in_ok-tally.tally.votes_for, bound_some c.in_ok-tally.tally.votes_against, bound_some c.in_ok-tally.tally.withheld, bound_some c.in_ok-tally.tally.eligible, same_0, same_1, same_2, same_3) (record {
       cells = values;
-      kept = rw (cast_null, cast_int c.in_ok-session.session, cast_int c.in_ok-resolution.resolution, cast_int c.moment_number.result, cast_int c.moment_number-2.result, cast_flag c.args.poll.now.chair, cast_some c.some_moment_number.result, cast_some c.some_moment_number-2.result, cast_some c.in_ok-tally.tally.votes_for, cast_some c.in_ok-tally.tally.votes_against, cast_some c.in_ok-tally.tally.withheld, cast_some c.in_ok-tally.tally.eligible) refl;
-      means = λ id. rw (c.meeting_text.ensures, c.in_ok-session.ensures.kept, c.in_ok-resolution.ensures.kept, c.moment_number.ensures, c.moment_number-2.ensures, c.some_moment_number.ensures, c.some_moment_number-2.ensures, c.in_ok-tally.ensures.kept, flag_kept c.args.poll.now.chair) refl;
+      preserved = rw (cast_null, cast_int c.in_ok-session.session, cast_int c.in_ok-resolution.resolution, cast_int c.moment_number.result, cast_int c.moment_number-2.result, cast_flag c.args.poll.now.chair, cast_some c.some_moment_number.result, cast_some c.some_moment_number-2.result, cast_some c.in_ok-tally.tally.votes_for, cast_some c.in_ok-tally.tally.votes_against, cast_some c.in_ok-tally.tally.withheld, cast_some c.in_ok-tally.tally.eligible) refl;
+      means = λ id. rw (c.meeting_text.ensures, c.in_ok-session.ensures.reads_back, c.in_ok-resolution.ensures.reads_back, c.moment_number.ensures, c.moment_number-2.ensures, c.some_moment_number.ensures, c.some_moment_number-2.ensures, c.in_ok-tally.ensures.reads_back, flag_reads_back c.args.poll.now.chair) refl;
     }))

@@ -14,8 +14,8 @@ returns-clause-set g c = λ clean inside desk.
     let same_withheld : to_z w64 (of_z w64 c.in_ok-withheld.withheld) ≡ c.in_ok-withheld.withheld = search rules in
     let same_eligible : to_z w64 (of_z w64 c.in_ok-eligible.eligible) ≡ c.in_ok-eligible.eligible = search rules in
     let figures : declared_of (Int c.in_ok-votes_for.votes_for) (Int c.in_ok-votes_against.votes_against) (Int c.in_ok-withheld.withheld) (Int c.in_ok-eligible.eligible) ≡ Some (Some c.args.tally) =
-    rw (c.in_ok-votes_for.ensures.kept, c.in_ok-votes_against.ensures.kept, c.in_ok-withheld.ensures.kept, c.in_ok-eligible.ensures.kept) refl in
-    declares c.args.poll c.meeting_text.result.now c.in_ok-resolution.resolution c.meeting_text.ensures c.in_ok-resolution.ensures.kept
+    rw (c.in_ok-votes_for.ensures.reads_back, c.in_ok-votes_against.ensures.reads_back, c.in_ok-withheld.ensures.reads_back, c.in_ok-eligible.ensures.reads_back) refl in
+    declares c.args.poll c.meeting_text.result.now c.in_ok-resolution.resolution c.meeting_text.ensures c.in_ok-resolution.ensures.reads_back
     c.in_ok-votes_for.votes_for c.in_ok-votes_against.votes_against c.in_ok-withheld.withheld c.in_ok-eligible.eligible c.args.tally figures
     (state g.S.Store c.args.tx.now.conn.now) (state g.S.Store c.execute.new.self.conn.now) c.execute.result desk inside
     (rw (c.params-to_sql.ensures, c.params-to_sql-2.ensures, c.params-to_sql-3.ensures, c.params-to_sql-4.ensures, c.params-to_sql-5.ensures, c.params-to_sql-6.ensures, same_resolution, same_votes_for, same_votes_against, same_withheld, same_eligible) at (c.execute.ensures.runs clean inside))

@@ -15,6 +15,6 @@ returns-clause-added g c =
     c.add_row.ensures.added (record { meeting = c.args.meeting; item = c.args.presence.now })
     (rw (c.params-to_sql.ensures, c.params-to_sql-2.ensures, c.params-to_sql-3.ensures, c.params-to_sql-4.ensures, same_0, same_1) (record {
       cells = Null ∷ values;
-      kept = rw (cast_null, cast_int c.in_ok-session.session, cast_int c.moment_number.result) refl;
-      means = λ id. rw (c.meeting_text.ensures, c.in_ok-session.ensures.kept, c.party_text.ensures, c.moment_number.ensures) refl;
+      preserved = rw (cast_null, cast_int c.in_ok-session.session, cast_int c.moment_number.result) refl;
+      means = λ id. rw (c.meeting_text.ensures, c.in_ok-session.ensures.reads_back, c.party_text.ensures, c.moment_number.ensures) refl;
     }))

@@ -10,7 +10,7 @@ use Rattle.sql_open.proofs.OpenedMoveLemmas.{first_from, made_from, may_move, mo
 use Rattle.sql_open.proofs.moving.moved_office.Goals as goal
 
 pub returns-in_err-office-clause-cause : goal.returns-in_err-office-clause-cause
-returns-in_err-office-clause-cause g c = λ clean told.
+returns-in_err-office-clause-cause g c = λ clean reported.
     let old = state g.S.Store c.args.conn.now in
     let judged = state g.S.Store c.judge_columns.new.conn in
     let late : HasCleanDisk judged = omega (arith, c.move_desk.ensures.crash.clean, clean) in

@@ -8,14 +8,14 @@ use Rattle.sql_model.specs.Standing.{HasNoOffice, Stands}
 use Rattle.sql_open.specs.declared.fault.OpenFault.{OpenFault}
 use Rattle.sql_open.specs.declared.fault.OpenFault.TheVariants.{NotADesk}
 use Rattle.sql_open.specs.declared.version.KnownVersion.TheVariants.{Two}
-use Rattle.sql_open.proofs.OpenedKeptLemmas.{version_same}
+use Rattle.sql_open.proofs.OpenedPreservedLemmas.{version_same}
 use Rattle.sql_open.proofs.OpeningLemmas.{desk_same, same_database}
 use Rattle.sql_open.proofs.RisingLemmas.{are_a_desk}
 use Rattle.sql_open.proofs.WholeLemmas.{leaves_whole}
 use Rattle.sql_open.proofs.opening.office_as_is.Goals as goal
 
 pub returns-in_err-office-clause-cause : goal.returns-in_err-office-clause-cause
-returns-in_err-office-clause-cause g c = λ clean told.
+returns-in_err-office-clause-cause g c = λ clean reported.
     let old = state g.S.Store c.args.conn.now in
     let judged = state g.S.Store c.judge_columns.new.conn in
     let late : HasCleanDisk judged = omega (arith, c.examine.ensures.crash.clean, clean) in
@@ -44,7 +44,7 @@ returns-clause-stands g c = λ clean has version.
     let still = c.in_ok-ask_open.ensures.asked.still clean in
     let is_open = still.0.0.is_open in
     let asked = c.ask_open.ensures.asked.same clean is_open in
-    let rows = ap (λ (d : Database). d.trees) asked.1 ∙ c.examine.ensures.kept last columns.0 asked.0 ∙ ap (λ (d : Database). d.trees) same.1 in
+    let rows = ap (λ (d : Database). d.trees) asked.1 ∙ c.examine.ensures.preserved last columns.0 asked.0 ∙ ap (λ (d : Database). d.trees) same.1 in
     let all : end.now ≡ old.now = same_database old end rows (c.schema.ensures.live same.0).0 (c.schema-2.ensures.live is_open).0 in
     let desk = are_a_desk old has rise in
     let holds = c.in_ok-office.ensures.holds last (desk_same old judged (sym same.1) desk) in
@@ -53,7 +53,7 @@ returns-clause-stands g c = λ clean has version.
       desk = desk_same old end (sym all) desk;
       version = version_same Two old end (sym all) version;
       holds = subst (λ (d : Database). office_in d.trees ≡ Some c.in_ok-office.office) (sym all) held;
-      kept = holds.1;
+      preserved = holds.1;
     } in
     (held, stands, leaves_whole end c.in_ok-office.office stands still.1 (c.in_ok-ask_open.ensures.settled clean))
 
@@ -69,5 +69,5 @@ returns-clause-opened g c = λ clean.
     let same = c.judge_columns.ensures.same late columns.0 in
     let is_open = (c.in_ok-ask_open.ensures.asked.still clean).0.0.is_open in
     let asked = c.ask_open.ensures.asked.same clean is_open in
-    let rows = ap (λ (d : Database). d.trees) asked.1 ∙ c.examine.ensures.kept last columns.0 asked.0 ∙ ap (λ (d : Database). d.trees) same.1 in
+    let rows = ap (λ (d : Database). d.trees) asked.1 ∙ c.examine.ensures.preserved last columns.0 asked.0 ∙ ap (λ (d : Database). d.trees) same.1 in
     (same.0, columns.1, same_database old end rows (c.schema.ensures.live same.0).0 (c.schema-2.ensures.live is_open).0)

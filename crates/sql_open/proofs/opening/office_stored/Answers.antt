@@ -5,7 +5,7 @@ use Rattle.sqlite.specs.Held.{state}
 use Rattle.sql_open.specs.Rising.{Rise}
 use Rattle.sql_open.specs.declared.fault.OpenFault.{OpenFault}
 use Rattle.sql_open.specs.declared.version.KnownVersion.TheVariants.{One, Two}
-use Rattle.sql_open.proofs.OpenedKeptLemmas.{are_as_told, are_if_made, kept_cause, kept_known, kept_rows, kept_stands, kept_whole, survives_as_is, survives_moved, version_cause}
+use Rattle.sql_open.proofs.OpenedPreservedLemmas.{are_as_reported, are_if_made, preserved_cause, preserved_known, preserved_rows, preserved_stands, preserved_whole, survives_as_is, survives_moved, version_cause}
 use Rattle.sql_open.proofs.RisingLemmas.{are_noted}
 use Rattle.sql_open.proofs.opening.office_stored.Goals as goal
 
@@ -29,19 +29,19 @@ office_as_is-requires-clause-rising g c = λ clean is_open.
 
 pub returns-in-One-clause-stands : goal.returns-in-One-clause-stands
 returns-in-One-clause-stands g c =
-    kept_stands g.S.Store One c.args.conn.now c.judge_version.new.conn c.moved_office.new.conn c.schema.ensures.live c.judge_version.ensures.same (λ clean. omega (arith, c.moved_office.ensures.crash.clean, clean))
+    preserved_stands g.S.Store One c.args.conn.now c.judge_version.new.conn c.moved_office.new.conn c.schema.ensures.live c.judge_version.ensures.same (λ clean. omega (arith, c.moved_office.ensures.crash.clean, clean))
     (λ clean notes. (rw c.in-One.is at c.in_ok-judge_version.ensures.noted) clean (are_noted (state g.S.Store c.args.conn.now) notes (c.requires.rising (omega (arith, c.judge_version.ensures.crash.clean, clean))))) (rw c.in-One.is at c.in_ok-judge_version.ensures.shown)
     c.moved_office.result _ (λ clean _. c.moved_office.ensures.stands clean) c.moved_office.ensures.opened
 
 pub returns-in-One-clause-whole : goal.returns-in-One-clause-whole
 returns-in-One-clause-whole g c =
-    kept_whole g.S.Store One c.args.conn.now c.judge_version.new.conn c.moved_office.new.conn c.schema.ensures.live c.judge_version.ensures.same (λ clean. omega (arith, c.moved_office.ensures.crash.clean, clean))
+    preserved_whole g.S.Store One c.args.conn.now c.judge_version.new.conn c.moved_office.new.conn c.schema.ensures.live c.judge_version.ensures.same (λ clean. omega (arith, c.moved_office.ensures.crash.clean, clean))
     (λ clean notes. (rw c.in-One.is at c.in_ok-judge_version.ensures.noted) clean (are_noted (state g.S.Store c.args.conn.now) notes (c.requires.rising (omega (arith, c.judge_version.ensures.crash.clean, clean))))) (rw c.in-One.is at c.in_ok-judge_version.ensures.shown)
     c.moved_office.result _ (λ clean _. c.moved_office.ensures.stands clean) c.moved_office.ensures.opened
 
 pub returns-in-One-clause-known : goal.returns-in-One-clause-known
 returns-in-One-clause-known g c =
-    kept_known g.S.Store One c.args.conn.now c.judge_version.new.conn c.moved_office.new.conn c.schema.ensures.live c.judge_version.ensures.same (λ clean. omega (arith, c.moved_office.ensures.crash.clean, clean))
+    preserved_known g.S.Store One c.args.conn.now c.judge_version.new.conn c.moved_office.new.conn c.schema.ensures.live c.judge_version.ensures.same (λ clean. omega (arith, c.moved_office.ensures.crash.clean, clean))
     (λ clean notes. (rw c.in-One.is at c.in_ok-judge_version.ensures.noted) clean (are_noted (state g.S.Store c.args.conn.now) notes (c.requires.rising (omega (arith, c.judge_version.ensures.crash.clean, clean))))) (rw c.in-One.is at c.in_ok-judge_version.ensures.shown)
     c.moved_office.result _ c.moved_office.ensures.opened
     (λ clean is_open are. are_if_made g.S.Store One c.args.conn.now c.judge_version.new.conn c.moved_office.new.conn c.schema.ensures.live c.judge_version.ensures.same (λ clean. omega (arith, c.moved_office.ensures.crash.clean, clean))
@@ -49,15 +49,15 @@ returns-in-One-clause-known g c =
 
 pub returns-in-One-clause-cause : goal.returns-in-One-clause-cause
 returns-in-One-clause-cause g c =
-    kept_cause g.S.Store One c.args.conn.now c.judge_version.new.conn c.moved_office.new.conn c.schema.ensures.live c.judge_version.ensures.same (λ clean. omega (arith, c.moved_office.ensures.crash.clean, clean))
+    preserved_cause g.S.Store One c.args.conn.now c.judge_version.new.conn c.moved_office.new.conn c.schema.ensures.live c.judge_version.ensures.same (λ clean. omega (arith, c.moved_office.ensures.crash.clean, clean))
     (λ clean notes. (rw c.in-One.is at c.in_ok-judge_version.ensures.noted) clean (are_noted (state g.S.Store c.args.conn.now) notes (c.requires.rising (omega (arith, c.judge_version.ensures.crash.clean, clean))))) (rw c.in-One.is at c.in_ok-judge_version.ensures.shown)
     c.moved_office.result c.moved_office.ensures.cause c.moved_office.ensures.other
 
-pub returns-in-One-clause-kept : goal.returns-in-One-clause-kept
-returns-in-One-clause-kept g c =
-    kept_rows g.S.Store One c.args.conn.now c.judge_version.new.conn c.moved_office.new.conn c.schema.ensures.live c.judge_version.ensures.same (λ clean. omega (arith, c.moved_office.ensures.crash.clean, clean))
+pub returns-in-One-clause-preserved : goal.returns-in-One-clause-preserved
+returns-in-One-clause-preserved g c =
+    preserved_rows g.S.Store One c.args.conn.now c.judge_version.new.conn c.moved_office.new.conn c.schema.ensures.live c.judge_version.ensures.same (λ clean. omega (arith, c.moved_office.ensures.crash.clean, clean))
     (λ clean notes. (rw c.in-One.is at c.in_ok-judge_version.ensures.noted) clean (are_noted (state g.S.Store c.args.conn.now) notes (c.requires.rising (omega (arith, c.judge_version.ensures.crash.clean, clean))))) (rw c.in-One.is at c.in_ok-judge_version.ensures.shown)
-    c.moved_office.result c.moved_office.ensures.kept
+    c.moved_office.result c.moved_office.ensures.preserved
 
 pub returns-in-One-clause-crash : goal.returns-in-One-clause-crash
 returns-in-One-clause-crash g c =
@@ -66,35 +66,35 @@ returns-in-One-clause-crash g c =
 
 pub returns-in-Two-clause-stands : goal.returns-in-Two-clause-stands
 returns-in-Two-clause-stands g c =
-    kept_stands g.S.Store Two c.args.conn.now c.judge_version.new.conn c.office_as_is.new.conn c.schema.ensures.live c.judge_version.ensures.same (λ clean. omega (arith, c.office_as_is.ensures.crash.clean, clean))
+    preserved_stands g.S.Store Two c.args.conn.now c.judge_version.new.conn c.office_as_is.new.conn c.schema.ensures.live c.judge_version.ensures.same (λ clean. omega (arith, c.office_as_is.ensures.crash.clean, clean))
     (λ clean notes. (rw c.in-Two.is at c.in_ok-judge_version.ensures.noted) clean (are_noted (state g.S.Store c.args.conn.now) notes (c.requires.rising (omega (arith, c.judge_version.ensures.crash.clean, clean))))) (rw c.in-Two.is at c.in_ok-judge_version.ensures.shown)
     c.office_as_is.result _ c.office_as_is.ensures.stands c.office_as_is.ensures.opened
 
 pub returns-in-Two-clause-whole : goal.returns-in-Two-clause-whole
 returns-in-Two-clause-whole g c =
-    kept_whole g.S.Store Two c.args.conn.now c.judge_version.new.conn c.office_as_is.new.conn c.schema.ensures.live c.judge_version.ensures.same (λ clean. omega (arith, c.office_as_is.ensures.crash.clean, clean))
+    preserved_whole g.S.Store Two c.args.conn.now c.judge_version.new.conn c.office_as_is.new.conn c.schema.ensures.live c.judge_version.ensures.same (λ clean. omega (arith, c.office_as_is.ensures.crash.clean, clean))
     (λ clean notes. (rw c.in-Two.is at c.in_ok-judge_version.ensures.noted) clean (are_noted (state g.S.Store c.args.conn.now) notes (c.requires.rising (omega (arith, c.judge_version.ensures.crash.clean, clean))))) (rw c.in-Two.is at c.in_ok-judge_version.ensures.shown)
     c.office_as_is.result _ c.office_as_is.ensures.stands c.office_as_is.ensures.opened
 
 pub returns-in-Two-clause-known : goal.returns-in-Two-clause-known
 returns-in-Two-clause-known g c =
-    kept_known g.S.Store Two c.args.conn.now c.judge_version.new.conn c.office_as_is.new.conn c.schema.ensures.live c.judge_version.ensures.same (λ clean. omega (arith, c.office_as_is.ensures.crash.clean, clean))
+    preserved_known g.S.Store Two c.args.conn.now c.judge_version.new.conn c.office_as_is.new.conn c.schema.ensures.live c.judge_version.ensures.same (λ clean. omega (arith, c.office_as_is.ensures.crash.clean, clean))
     (λ clean notes. (rw c.in-Two.is at c.in_ok-judge_version.ensures.noted) clean (are_noted (state g.S.Store c.args.conn.now) notes (c.requires.rising (omega (arith, c.judge_version.ensures.crash.clean, clean))))) (rw c.in-Two.is at c.in_ok-judge_version.ensures.shown)
     c.office_as_is.result _ c.office_as_is.ensures.opened
-    (λ clean is_open are. are_as_told g.S.Store Two c.args.conn.now c.judge_version.new.conn c.office_as_is.new.conn c.schema.ensures.live c.judge_version.ensures.same (λ clean. omega (arith, c.office_as_is.ensures.crash.clean, clean))
+    (λ clean is_open are. are_as_reported g.S.Store Two c.args.conn.now c.judge_version.new.conn c.office_as_is.new.conn c.schema.ensures.live c.judge_version.ensures.same (λ clean. omega (arith, c.office_as_is.ensures.crash.clean, clean))
     (λ clean notes. (rw c.in-Two.is at c.in_ok-judge_version.ensures.noted) clean (are_noted (state g.S.Store c.args.conn.now) notes (c.requires.rising (omega (arith, c.judge_version.ensures.crash.clean, clean))))) (rw c.in-Two.is at c.in_ok-judge_version.ensures.shown) clean is_open are)
 
 pub returns-in-Two-clause-cause : goal.returns-in-Two-clause-cause
 returns-in-Two-clause-cause g c =
-    kept_cause g.S.Store Two c.args.conn.now c.judge_version.new.conn c.office_as_is.new.conn c.schema.ensures.live c.judge_version.ensures.same (λ clean. omega (arith, c.office_as_is.ensures.crash.clean, clean))
+    preserved_cause g.S.Store Two c.args.conn.now c.judge_version.new.conn c.office_as_is.new.conn c.schema.ensures.live c.judge_version.ensures.same (λ clean. omega (arith, c.office_as_is.ensures.crash.clean, clean))
     (λ clean notes. (rw c.in-Two.is at c.in_ok-judge_version.ensures.noted) clean (are_noted (state g.S.Store c.args.conn.now) notes (c.requires.rising (omega (arith, c.judge_version.ensures.crash.clean, clean))))) (rw c.in-Two.is at c.in_ok-judge_version.ensures.shown)
-    c.office_as_is.result (λ clean told. let it = c.office_as_is.ensures.cause clean told in (it.0, λ _. it.1)) c.office_as_is.ensures.other
+    c.office_as_is.result (λ clean reported. let it = c.office_as_is.ensures.cause clean reported in (it.0, λ _. it.1)) c.office_as_is.ensures.other
 
-pub returns-in-Two-clause-kept : goal.returns-in-Two-clause-kept
-returns-in-Two-clause-kept g c =
-    kept_rows g.S.Store Two c.args.conn.now c.judge_version.new.conn c.office_as_is.new.conn c.schema.ensures.live c.judge_version.ensures.same (λ clean. omega (arith, c.office_as_is.ensures.crash.clean, clean))
+pub returns-in-Two-clause-preserved : goal.returns-in-Two-clause-preserved
+returns-in-Two-clause-preserved g c =
+    preserved_rows g.S.Store Two c.args.conn.now c.judge_version.new.conn c.office_as_is.new.conn c.schema.ensures.live c.judge_version.ensures.same (λ clean. omega (arith, c.office_as_is.ensures.crash.clean, clean))
     (λ clean notes. (rw c.in-Two.is at c.in_ok-judge_version.ensures.noted) clean (are_noted (state g.S.Store c.args.conn.now) notes (c.requires.rising (omega (arith, c.judge_version.ensures.crash.clean, clean))))) (rw c.in-Two.is at c.in_ok-judge_version.ensures.shown)
-    c.office_as_is.result c.office_as_is.ensures.kept
+    c.office_as_is.result c.office_as_is.ensures.preserved
 
 pub returns-in-Two-clause-crash : goal.returns-in-Two-clause-crash
 returns-in-Two-clause-crash g c =

@@ -6,7 +6,7 @@ use Rattle.sql_desk_tables.specs.Versions.{NotesVersion}
 use Rattle.sql_open.specs.Opening.{ShowsLater}
 use Rattle.sql_open.specs.WholeDesk.{IsWholeDesk}
 use Rattle.sql_open.proofs.FaultLemmas.{cause_same}
-use Rattle.sql_open.proofs.OpenedKeptLemmas.{are_moved_same, made_same, opened_same, stands_as_opened, version_same, were_same}
+use Rattle.sql_open.proofs.OpenedPreservedLemmas.{are_moved_same, made_same, opened_same, stands_as_opened, version_same, were_same}
 use Rattle.sql_open.proofs.opening.open.Goals as goal
 
 pub returns-in-Ok-office_stored-clause-stands : goal.returns-in-Ok-office_stored-clause-stands
@@ -36,9 +36,9 @@ pub returns-in-Err-office_stored-clause-cause : goal.returns-in-Err-office_store
 returns-in-Err-office_stored-clause-cause g c =
     let conn = state g.S.Store c.args.conn in
     let opened = state g.S.Store c.in-Ok.conn in
-    let kept = state g.S.Store c.office_stored.new.conn in
+    let preserved = state g.S.Store c.office_stored.new.conn in
     let fault = c.in-Err-office_stored.fault in
-    let same : HasCleanDisk kept → opened.now ≡ conn.now = λ clean. c.in-Ok.ensures.same (omega (arith, c.office_stored.ensures.crash.clean, clean)) in
+    let same : HasCleanDisk preserved → opened.now ≡ conn.now = λ clean. c.in-Ok.ensures.same (omega (arith, c.office_stored.ensures.crash.clean, clean)) in
     let why = c.in-Err-office_stored.ensures.cause in
     record {
       cause = λ clean notes. cause_same fault opened conn (same clean) (why.cause clean (subst (λ (d : Database). NotesVersion d.schema) (sym (same clean)) notes));
@@ -46,10 +46,10 @@ returns-in-Err-office_stored-clause-cause g c =
       whole = λ clean office whole. why.whole clean office (subst (λ (d : Database). IsWholeDesk d.trees office) (sym (same clean)) whole);
     }
 
-pub returns-in-Err-office_stored-clause-kept : goal.returns-in-Err-office_stored-clause-kept
-returns-in-Err-office_stored-clause-kept g c = λ clean is_open.
+pub returns-in-Err-office_stored-clause-preserved : goal.returns-in-Err-office_stored-clause-preserved
+returns-in-Err-office_stored-clause-preserved g c = λ clean is_open.
     let early : HasCleanDisk (state g.S.Store c.in-Ok.conn) = omega (arith, c.office_stored.ensures.crash.clean, clean) in
-    c.in-Err-office_stored.ensures.kept clean is_open ∙ ap (λ (d : Database). d.trees) (c.in-Ok.ensures.same early)
+    c.in-Err-office_stored.ensures.preserved clean is_open ∙ ap (λ (d : Database). d.trees) (c.in-Ok.ensures.same early)
 
 pub returns-in-Err-office_stored-clause-crash : goal.returns-in-Err-office_stored-clause-crash
 returns-in-Err-office_stored-clause-crash g c = λ clean db may.

@@ -33,8 +33,8 @@ returns-in-Ok-clause-rising g c = λ clear.
     let live = (c.in-Ok.ensures.opens clear).1 (c.in-Ok.ensures.opens clear).0.is_open in
     risen v (state g.S.Store c.in-Ok.conn) (c.in-Ok.ensures.trees clear) (g.met.S.Alter.listed store whole) (g.met.S.Store.ordered store whole) live.0.lists.listed
 
-pub returns-in-Err-clause-kept : goal.returns-in-Err-clause-kept
-returns-in-Err-clause-kept g c = λ clear stands.
+pub returns-in-Err-clause-preserved : goal.returns-in-Err-clause-preserved
+returns-in-Err-clause-preserved g c = λ clear stands.
     let store = c.into_store-store.result in
     let v = g.S.Store.view store in
     let late : IsClean v = omega (arith, c.in-Err.ensures.unharmed.clean, clear) in

@@ -13,9 +13,9 @@ returns-clause-same g c = λ clean is_open.
     let end = state g.S.Store c.ask_version-asked.new.conn in
     let early : HasCleanDisk asked = omega (arith, c.ask_version-asked.ensures.crash.clean, clean) in
     let asked_open = c.ask_version-asked.ensures.was_open clean is_open in
-    let kept = c.ask_version.ensures.asked.same early asked_open in
-    let same = c.ask_version-asked.ensures.kept clean asked_open is_open ∙ ap (λ (d : Database). d.trees) kept.1 in
-    (kept.0, same_database old end same (c.schema.ensures.live kept.0).0 (c.schema-2.ensures.live is_open).0)
+    let preserved = c.ask_version.ensures.asked.same early asked_open in
+    let same = c.ask_version-asked.ensures.preserved clean asked_open is_open ∙ ap (λ (d : Database). d.trees) preserved.1 in
+    (preserved.0, same_database old end same (c.schema.ensures.live preserved.0).0 (c.schema-2.ensures.live is_open).0)
 
 pub returns-clause-crash : goal.returns-clause-crash
 returns-clause-crash g c =

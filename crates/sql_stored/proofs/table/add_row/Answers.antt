@@ -7,7 +7,7 @@ use Rattle.sql_stored.proofs.table.add_row.Goals as goal
 
 pub returns-clause-added : goal.returns-clause-added
 returns-clause-added g c = λ added row clean inside desk.
-    adds_given twos_apart g.met.T.FilledTable.adds (bound c.args.values.now) row.cells added row.kept row.means
+    adds_given twos_apart g.met.T.FilledTable.adds (bound c.args.values.now) row.cells added row.preserved row.means
     (state g.S.Store c.args.tx.now.conn.now) (state g.S.Store c.execute.new.self.conn.now) c.execute.result desk inside
     (rw c.adding.ensures at (c.execute.ensures.runs clean inside))
 

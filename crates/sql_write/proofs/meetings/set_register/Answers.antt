@@ -27,4 +27,4 @@ returns-clause-writes g c =
     let mid = c.add_register.new.tx.conn.now in
     let turns = subst (λ l. Rewrites {T = Unit {0}} g.S.Store c.empty.new.tx.conn.now mid (Ok tt) any_records (rows_added c.args.meeting l)) c.rows.ensures.value c.in_ok-add_register.ensures.turns in
     let turned = rows_turned g.S.Store old c.empty.new.tx.conn.now mid c.in_ok-empty.field-0 c.in_ok-empty.ensures.commits (Ok tt) c.args.meeting c.args.rows.now c.in_ok-empty.ensures.emptied turns in
-    register_written g.S.Store old mid c.load.new.tx.conn.now c.in_ok-load.field-0 c.args.meeting c.args.rows.now c.rows.ensures.kept turned c.in_ok-load.ensures.set c.in_ok-load.ensures.commits
+    register_written g.S.Store old mid c.load.new.tx.conn.now c.in_ok-load.field-0 c.args.meeting c.args.rows.now c.rows.ensures.valid turned c.in_ok-load.ensures.set c.in_ok-load.ensures.commits

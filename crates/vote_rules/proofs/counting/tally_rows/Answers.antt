@@ -7,7 +7,7 @@ use Rattle.vocabulary.specs.declared.kinds.Way.{Way}
 use Rattle.desk_words.specs.declared.records.RegisterRow.{RegisterRow}
 use Rattle.desk_words.specs.declared.records.Tally.{Tally}
 use Rattle.proxy_rules.specs.Holdings.{holding_by}
-use Rattle.proxy_rules.proofs.ProxyKeptLemmas.{kept_by}
+use Rattle.proxy_rules.proofs.ProxyValidLemmas.{valid_by}
 use Rattle.proxy_rules.proofs.ShareLemmas.{all_shares-le}
 use Rattle.proxy_rules.specs.Shares.{shares_of}
 use Rattle.vote_rules.specs.Casts.{Share}
@@ -18,14 +18,14 @@ use Rattle.vote_rules.specs.Tallies.{share_at, tally_by}
 use Rattle.vote_rules.specs.declared.received.BlockCast.{BlockCast}
 use Rattle.vote_rules.proofs.VoteCountLemmas.{counts_fit, added-next, row-le}
 use Rattle.vote_rules.proofs.LeftLemmas.{HasRest, on_this_row, rest_after}
-use Rattle.vote_rules.proofs.SortedBlocks.{kept-sorted}
+use Rattle.vote_rules.proofs.SortedBlocks.{filtered-sorted}
 use Rattle.vote_rules.proofs.counting.tally_rows.Goals as goal
 
 pub tally_row-requires : goal.tally_row-requires
 tally_row-requires c =
     let papers = c.args.papers.now in
     let rows = papers.register.now in
-    kept_by papers.appointments.now papers.endings.now c.row-item.result c.requires.numbered c.requires.tags
+    valid_by papers.appointments.now papers.endings.now c.row-item.result c.requires.numbered c.requires.tags
     (row-le rows c.loop-row.row-index c.row-item.result (all_shares-le rows c.requires.rows) c.loop-row-test.true c.row-item.is)
 
 pub loop-row-init : goal.loop-row-init
@@ -68,7 +68,7 @@ loop-row-preserved c =
     let more : c.in_ok-more.more ≡ tally_to (vote row) (shares_of row) =
     c.in_ok-more.ensures ∙ ap (λ casts. tally_to (λ place. vote_among casts last papers.authorities.now c.args.resolution row (share row place)) (shares_of row)) on_row in
     let later = sym c.parted_at.ensures.later in (
-      subst AreInMemberOrder later (kept-sorted nat_list_cmp_total (λ (cast : BlockCast). cast.block.member) (is_past_member row.member) left c.loop-row.invariant.0),
+      subst AreInMemberOrder later (filtered-sorted nat_list_cmp_total (λ (cast : BlockCast). cast.block.member) (is_past_member row.member) left c.loop-row.invariant.0),
       subst (HasRest rows blocks (i + 1)) later (rest_after rows blocks left i row c.requires.rows c.loop-row.invariant.1 c.loop-row-test.true c.row-item.is),
       c.add-tally.ensures
           ∙ ap (λ t. added t c.in_ok-more.more) c.loop-row.invariant.2

@@ -8,7 +8,7 @@ use Rattle.std.proofs.lemmas.List.{reverse-append}
 use Rattle.vocabulary.specs.Names.{name_cmp, same_name}
 use Rattle.vote_rules.specs.Casts.{find_map}
 use Rattle.vote_rules.specs.InstructedCasts.{instructed_by, last_instructed}
-use Rattle.vote_rules.proofs.VoteListLemmas.{enumerate_more, kept_place}
+use Rattle.vote_rules.proofs.VoteListLemmas.{enumerate_more, filtered_place}
 use Rattle.vote_rules.proofs.received.last_instructed.Goals as goal
 use Rattle.vote_rules.proofs.received.last_instructed.Goals.{then-is_instructed_on+in_ok-insert, else-is_instructed_on}
 
@@ -28,7 +28,7 @@ loop-order-preserved c = λ voter.
           ∙ w.in_ok-insert.ensures.updates.0 voter
           ∙ ap (λ b. cond b (Some i) (get name_cmp c.loop-order.last voter)) (sym (texts_ties mark.voter voter))
           ∙ ap (cond (same_name mark.voter voter) (Some i)) (c.loop-order.invariant voter)
-          ∙ kept_place (same_name mark.voter voter) i before
+          ∙ filtered_place (same_name mark.voter voter) i before
           ∙ ap (λ b. option_or (cond (b && same_name mark.voter voter) (Some i) None) before) (sym w.if-is_instructed_on.true ∙ c.is_instructed_on.ensures)
           ∙ sym more
       | else-is_instructed_on w ↦

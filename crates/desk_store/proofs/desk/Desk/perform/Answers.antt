@@ -20,7 +20,7 @@ returns-clause-done g c = λ clean office stands.
     let mid = state g.S.Store c.step.new.tx.conn.now in
     let end = state g.S.Store c.commit.new.self.0 in
     let begun : c.transaction-tx.result.conn.now ≡ record c.ask_open.new.self { in_transaction = true } = search rules in
-    let within : IsWithin first mid = record { crash = c.step.ensures.crash; was_open = c.step.ensures.was_open; kept = c.step.ensures.kept } in
+    let within : IsWithin first mid = record { crash = c.step.ensures.crash; was_open = c.step.ensures.was_open; preserved = c.step.ensures.preserved } in
     let opened = desk_clean g.S.Store c.ask_open.new.self c.transaction-tx.result.conn.now c.step.new.tx.conn.now c.commit.new.self.0 begun within c.commit.ensures.ended c.commit.ensures.survives clean in
     let asked = c.in_ok-ask_open.ensures.asked in
     let there = stands_same old first office (ap (λ h. (state g.S.Store h).now) begun) (asked_stands g.S.Store c.args.self.now c.ask_open.new.self asked opened office stands) in
@@ -39,7 +39,7 @@ returns-clause-declares g c = λ clean office stands.
     let mid = state g.S.Store c.step.new.tx.conn.now in
     let end = state g.S.Store c.commit.new.self.0 in
     let begun : c.transaction-tx.result.conn.now ≡ record c.ask_open.new.self { in_transaction = true } = search rules in
-    let within : IsWithin first mid = record { crash = c.step.ensures.crash; was_open = c.step.ensures.was_open; kept = c.step.ensures.kept } in
+    let within : IsWithin first mid = record { crash = c.step.ensures.crash; was_open = c.step.ensures.was_open; preserved = c.step.ensures.preserved } in
     let opened = desk_clean g.S.Store c.ask_open.new.self c.transaction-tx.result.conn.now c.step.new.tx.conn.now c.commit.new.self.0 begun within c.commit.ensures.ended c.commit.ensures.survives clean in
     let asked = c.in_ok-ask_open.ensures.asked in
     let there = stands_same old first office (ap (λ h. (state g.S.Store h).now) begun) (asked_stands g.S.Store c.args.self.now c.ask_open.new.self asked opened office stands) in
@@ -57,7 +57,7 @@ returns-clause-leaves g c =
     let end = state g.S.Store c.commit.new.self.0 in
     let begun : c.transaction-tx.result.conn.now ≡ record c.ask_open.new.self { in_transaction = true } = search rules in
     let inside : IsTrue first.in_transaction = ap (λ h. (state g.S.Store h).in_transaction) begun in
-    let within : IsWithin first mid = record { crash = c.step.ensures.crash; was_open = c.step.ensures.was_open; kept = c.step.ensures.kept } in
+    let within : IsWithin first mid = record { crash = c.step.ensures.crash; was_open = c.step.ensures.was_open; preserved = c.step.ensures.preserved } in
     let asked = c.in_ok-ask_open.ensures.asked in
     let over : HasCleanDisk end → IsTrue mid.in_transaction × Shows mid end mid.now mid.now false × KeepsCounts mid end × (end.marks ≡ []) = λ clean. mapped_on {W = IsTrue mid.in_transaction × Shows mid end mid.now mid.now false × KeepsCounts mid end × (end.marks ≡ [])} _ c.commit.result c.map_err-2.result c.in_ok-map_err.field-0 c.map_err-2.ensures.cases c.in_ok-map_err.was (c.commit.ensures.ok clean) in
     let there : HasCleanDisk mid → IsDatabase first.now → (office : OfficeLists) → Stands first office → Stands mid (stepped office c.args.call) = λ clean sound office stands.
@@ -73,7 +73,7 @@ returns-in_err-map_err-clause-leaves g c =
     let mid = state g.S.Store c.step.new.tx.conn.now in
     let end = state g.S.Store c.commit.new.self.0 in
     let begun : c.transaction-tx.result.conn.now ≡ record c.ask_open.new.self { in_transaction = true } = search rules in
-    let within : IsWithin first mid = record { crash = c.step.ensures.crash; was_open = c.step.ensures.was_open; kept = c.step.ensures.kept } in
+    let within : IsWithin first mid = record { crash = c.step.ensures.crash; was_open = c.step.ensures.was_open; preserved = c.step.ensures.preserved } in
     let asked = c.in_ok-ask_open.ensures.asked in
     let settled : IsTrue old.is_open → old.now ≡ old.committed = search rules in
     let began : IsTrue first.in_transaction = ap (λ h. (state g.S.Store h).in_transaction) begun in
@@ -90,7 +90,7 @@ returns-clause-crash g c =
     let mid = state g.S.Store c.step.new.tx.conn.now in
     let begun : c.transaction-tx.result.conn.now ≡ record c.ask_open.new.self { in_transaction = true } = search rules in
     let inside : IsTrue first.in_transaction = ap (λ h. (state g.S.Store h).in_transaction) begun in
-    let within : IsWithin first mid = record { crash = c.step.ensures.crash; was_open = c.step.ensures.was_open; kept = c.step.ensures.kept } in
+    let within : IsWithin first mid = record { crash = c.step.ensures.crash; was_open = c.step.ensures.was_open; preserved = c.step.ensures.preserved } in
     let asked = c.in_ok-ask_open.ensures.asked in
     let there : HasCleanDisk mid → (office : OfficeLists) → Stands first office → Stands mid (stepped office c.args.call) × IsDatabase mid.now = λ clean office stands.
     let done = mapped_is _ (λ t. FnOnceReturnsAt g.F.FnOnce c.args.show (decided office c.args.call).reply (Ok t) × Stands mid (stepped office c.args.call) × IsDatabase mid.now) c.step.result c.map_err.result c.in_ok-shown.shown c.map_err.ensures.cases c.in_ok-shown.was
@@ -105,7 +105,7 @@ returns-in_err-map_err-clause-crash g c =
     let mid = state g.S.Store c.step.new.tx.conn.now in
     let begun : c.transaction-tx.result.conn.now ≡ record c.ask_open.new.self { in_transaction = true } = search rules in
     let inside : IsTrue first.in_transaction = ap (λ h. (state g.S.Store h).in_transaction) begun in
-    let within : IsWithin first mid = record { crash = c.step.ensures.crash; was_open = c.step.ensures.was_open; kept = c.step.ensures.kept } in
+    let within : IsWithin first mid = record { crash = c.step.ensures.crash; was_open = c.step.ensures.was_open; preserved = c.step.ensures.preserved } in
     let asked = c.in_ok-ask_open.ensures.asked in
     let there : HasCleanDisk mid → (office : OfficeLists) → Stands first office → Stands mid (stepped office c.args.call) × IsDatabase mid.now = λ clean office stands.
     let done = mapped_is _ (λ t. FnOnceReturnsAt g.F.FnOnce c.args.show (decided office c.args.call).reply (Ok t) × Stands mid (stepped office c.args.call) × IsDatabase mid.now) c.step.result c.map_err.result c.in_ok-shown.shown c.map_err.ensures.cases c.in_ok-shown.was
@@ -121,7 +121,7 @@ returns-clause-still g c = λ clean office stands none.
     let mid = state g.S.Store c.step.new.tx.conn.now in
     let end = state g.S.Store c.commit.new.self.0 in
     let begun : c.transaction-tx.result.conn.now ≡ record c.ask_open.new.self { in_transaction = true } = search rules in
-    let within : IsWithin first mid = record { crash = c.step.ensures.crash; was_open = c.step.ensures.was_open; kept = c.step.ensures.kept } in
+    let within : IsWithin first mid = record { crash = c.step.ensures.crash; was_open = c.step.ensures.was_open; preserved = c.step.ensures.preserved } in
     let opened = desk_clean g.S.Store c.ask_open.new.self c.transaction-tx.result.conn.now c.step.new.tx.conn.now c.commit.new.self.0 begun within c.commit.ensures.ended c.commit.ensures.survives clean in
     let asked = c.in_ok-ask_open.ensures.asked in
     let there = stands_same old first office (ap (λ h. (state g.S.Store h).now) begun) (asked_stands g.S.Store c.args.self.now c.ask_open.new.self asked opened office stands) in
@@ -144,7 +144,7 @@ returns-clause-whole g c = λ clean office stands.
     let mid = state g.S.Store c.step.new.tx.conn.now in
     let end = state g.S.Store c.commit.new.self.0 in
     let begun : c.transaction-tx.result.conn.now ≡ record c.ask_open.new.self { in_transaction = true } = search rules in
-    let within : IsWithin first mid = record { crash = c.step.ensures.crash; was_open = c.step.ensures.was_open; kept = c.step.ensures.kept } in
+    let within : IsWithin first mid = record { crash = c.step.ensures.crash; was_open = c.step.ensures.was_open; preserved = c.step.ensures.preserved } in
     let opened = desk_clean g.S.Store c.ask_open.new.self c.transaction-tx.result.conn.now c.step.new.tx.conn.now c.commit.new.self.0 begun within c.commit.ensures.ended c.commit.ensures.survives clean in
     let asked = c.in_ok-ask_open.ensures.asked in
     let there = stands_same old first office (ap (λ h. (state g.S.Store h).now) begun) (asked_stands g.S.Store c.args.self.now c.ask_open.new.self asked opened office stands) in

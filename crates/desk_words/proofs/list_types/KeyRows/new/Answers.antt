@@ -30,10 +30,10 @@ module _ (c : goal.Else-not-ascend) where
 pub returns-then-not-ascend-clause-limit : goal.returns-then-not-ascend-clause-limit
 returns-then-not-ascend-clause-limit c =
     let few : nat_le (length c.args.rows.items) MOST_KEYS ≡ true = grind (arith, nat_tests) in
-    let kept = both_true few (sym c.secrets_differ.ensures.differ ∙ c.if-not-secrets_differ.false) in
+    let preserved = both_true few (sym c.secrets_differ.ensures.differ ∙ c.if-not-secrets_differ.false) in
     let falls : ascends_by caller_before c.into_order.new.values.items ≡ false =
     ap (ascends_by caller_before) (sym c.deref.ensures.value) ∙ sym c.ascend.ensures ∙ c.if-not-ascend.true in
-    let none = key_list_of-repeated c.args.rows.items c.secrets_differ.new.rows.items c.into_order.new.values.items c.secrets_differ.ensures.rows kept c.into_order.ensures.ascending falls in
+    let none = key_list_of-repeated c.args.rows.items c.secrets_differ.new.rows.items c.into_order.new.values.items c.secrets_differ.ensures.rows preserved c.into_order.ensures.ascending falls in
     (λ limit. none, λ none. refl)
 
 pub invariant_of-result : goal.invariant_of-result
@@ -45,8 +45,8 @@ returns-clause-value c = made c
 pub returns-clause-rows : goal.returns-clause-rows
 returns-clause-rows c = moved c
 
-pub returns-clause-kept : goal.returns-clause-kept
-returns-clause-kept c = key_list c
+pub returns-clause-valid : goal.returns-clause-valid
+returns-clause-valid c = key_list c
 
 pub returns-clause-limit : goal.returns-clause-limit
 returns-clause-limit c = let some = made c in (λ never. absurd (cc), λ none. absurd (cc))

@@ -30,8 +30,8 @@ module _ (c : goal.Else-not-ascend) where
 pub returns-clause-value : goal.returns-clause-value
 returns-clause-value c = made c
 
-pub returns-clause-kept : goal.returns-clause-kept
-returns-clause-kept c = register c
+pub returns-clause-valid : goal.returns-clause-valid
+returns-clause-valid c = register c
 
 pub invariant_of-result : goal.invariant_of-result
 invariant_of-result c = register c

@@ -16,5 +16,5 @@ pub invariant_of-self : goal.invariant_of-self
 invariant_of-self c =
     let pending = c.self.inside.window.pending in
     let long = rw (← c.self.view_is) at c.requires.long in
-    let kept : feed_place c.keep.new.self.pending ≡ length c.keep.new.self.pending = rw c.keep.ensures.pending (feed_place-take 65538 pending (rw (← c.self.view_is) at c.requires.unfed)) in
-    (omega (arith, kept, ap length c.keep.ensures.pending, length-take 65538 pending, long), omega (arith, c.self.invariant.1))
+    let preserved : feed_place c.keep.new.self.pending ≡ length c.keep.new.self.pending = rw c.keep.ensures.pending (feed_place-take 65538 pending (rw (← c.self.view_is) at c.requires.unfed)) in
+    (omega (arith, preserved, ap length c.keep.ensures.pending, length-take 65538 pending, long), omega (arith, c.self.invariant.1))

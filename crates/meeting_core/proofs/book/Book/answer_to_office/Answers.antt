@@ -10,7 +10,7 @@ use Rattle.std.specs.Option.{option_copied}
 use Rattle.office_decisions.specs.OfficeRulings.{office_ruling}
 use Rattle.desk_words.proofs.OfficeFacts.{found_meeting, office_facts}
 use Rattle.office_decisions.specs.ListsRead.{reads_register}
-use Rattle.meeting_core.proofs.ReadKept.{weaker}
+use Rattle.meeting_core.proofs.ReadPreserved.{weaker}
 use Rattle.meeting_core.proofs.book.Book.answer_to_office.Goals as goal
 
 -- what is found is a meeting

@@ -15,16 +15,16 @@ use Rattle.desk_words.specs.declared.request.PartyRequest.TheVariants.{Notice}
 use Rattle.caller_view.specs.PartyRulings.{party_ruling}
 use Rattle.party_views.specs.OwnViews.{own_from}
 use Rattle.party_views.specs.Public.{PublicRecord}
-use Rattle.party_views.specs.RowsRead.{own_read}
-use Rattle.party_views.specs.PartyRows.{rows_in}
+use Rattle.party_views.specs.RowsRead.{own_rows_read}
+use Rattle.party_views.specs.PartyRows.{own_rows_in}
 use Rattle.party_views.specs.Views.{own_in_some, own_of, public_in, public_of}
+use Rattle.party_views.specs.declared.own_rows.OwnRows.{OwnRows}
 use Rattle.party_views.specs.declared.views.OwnView.{OwnView}
-use Rattle.caller_view.proofs.PartyReadLemmas.{ruling-own_read}
 use Rattle.meeting_core.proofs.CoreFoundLemmas.{found_ascends}
 use Rattle.meeting_core.proofs.book.Book.answer_to_party.Goals as goal
 
-pub rows_read-requires : goal.rows_read-requires
-rows_read-requires c =
+pub own_rows_read-requires : goal.own_rows_read-requires
+own_rows_read-requires c =
     let o : OfficeLists = record { keys = c.self.inside.keys; closed = c.self.inside.closed; meetings = c.self.inside.meetings.items } in
     subst (λ (found : Option MeetingLists). IfSome found (λ m. ascends_by member_before m.register ≡ true))
     (ap (λ meetings. meeting_named meetings c.args.meeting) (sym c.deref.ensures.value) ∙ sym c.find_meeting-found.ensures)
@@ -55,14 +55,10 @@ returns c =
     let now = c.args.now in
     let what = c.args.asked.now in
     let same : found ≡ meeting_named o.meetings c.args.meeting = c.find_meeting-found.ensures ∙ ap (λ meetings. meeting_named meetings c.args.meeting) c.deref.ensures.value in
-    let public = public_in found o.closed in
-    let own = own_in_some found o.closed party now in
-    let given = ruled_answer (party_ruling c.public_in-public.result c.in_ok-own.own now what) in
+    let answered = λ (r : PublicRecord). ruled_answer (party_ruling r (own_from (own_rows_in found party) r now) now what) in
     let due = ruled_answer (party_ruling (public_of o c.args.meeting) (own_of o party c.args.meeting now) now what) in
-    let made = c.in_ok-own.ensures (rows_in found party) c.in_ok-rows.ensures ∙ ap (λ (r : PublicRecord). own_read what (own_from (rows_in found party) r now)) c.public_in-public.ensures in
-    let read : given ≡ due = ap (λ (r : PublicRecord). ruled_answer (party_ruling r c.in_ok-own.own now what)) c.public_in-public.ensures
-    ∙ ap (λ (o : OwnView). ruled_answer (party_ruling public o now what)) made
-    ∙ ap ruled_answer (ruling-own_read public own now what)
+    let read : answered c.public_in-public.result ≡ due = ap answered c.public_in-public.ensures
     ∙ ap (λ (f : Option MeetingLists). ruled_answer (party_ruling (public_in f o.closed) (own_in_some f o.closed party now) now what)) same in
-    subst (λ (held : OfficeLists). IfOk c.answer.result (λ (a : Answer Entry). a ≡ ruled_answer (party_ruling (public_of held c.args.meeting) (own_of held party c.args.meeting now) now what))) c.self.view_is
-    (IfOk-weaker c.answer.result (λ (a : Answer Entry). a ≡ given) (λ (a : Answer Entry). a ≡ due) (λ a is. is ∙ read) c.answer.ensures.answer)
+    subst (λ (held : OfficeLists). IfOk c.answer_from.result (λ (a : Answer Entry). a ≡ ruled_answer (party_ruling (public_of held c.args.meeting) (own_of held party c.args.meeting now) now what))) c.self.view_is
+    (IfOk-weaker c.answer_from.result (λ (a : Answer Entry). (all : OwnRows) → c.in_ok-rows.rows ≡ own_rows_read what all → a ≡ ruled_answer (party_ruling c.public_in-public.result (own_from all c.public_in-public.result now) now what)) (λ (a : Answer Entry). a ≡ due)
+    (λ a is. is (own_rows_in found party) c.in_ok-rows.ensures ∙ read) c.answer_from.ensures)

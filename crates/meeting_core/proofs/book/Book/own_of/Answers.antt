@@ -9,15 +9,15 @@ use Rattle.desk_words.specs.declared.office.MeetingLists.{MeetingLists}
 use Rattle.desk_words.specs.declared.office.OfficeLists.{OfficeLists}
 use Rattle.party_views.specs.OwnViews.{own_from}
 use Rattle.party_views.specs.Public.{PublicRecord}
-use Rattle.party_views.specs.PartyRows.{rows_in}
+use Rattle.party_views.specs.PartyRows.{own_rows_in}
 use Rattle.party_views.specs.Views.{own_in_some, own_of}
 use Rattle.party_views.specs.declared.own_rows.OwnRows.{OwnRows}
 use Rattle.party_views.specs.declared.views.OwnView.{OwnView}
 use Rattle.meeting_core.proofs.CoreFoundLemmas.{found_ascends}
 use Rattle.meeting_core.proofs.book.Book.own_of.Goals as goal
 
-pub rows_in-requires : goal.rows_in-requires
-rows_in-requires c =
+pub own_rows_in-requires : goal.own_rows_in-requires
+own_rows_in-requires c =
     let o : OfficeLists = record { keys = c.self.inside.keys; closed = c.self.inside.closed; meetings = c.self.inside.meetings.items } in
     subst (λ (found : Option MeetingLists). IfSome found (λ m. ascends_by member_before m.register ≡ true))
     (ap (λ meetings. meeting_named meetings c.args.meeting) (sym c.deref.ensures.value) ∙ sym c.find_meeting-found.ensures)
@@ -32,7 +32,7 @@ returns c =
     let same : found ≡ meeting_named o.meetings c.args.meeting = c.find_meeting-found.ensures ∙ ap (λ meetings. meeting_named meetings c.args.meeting) c.deref.ensures.value in
     let due : own_from c.in_ok-rows.rows c.public_in-public.result now ≡ own_of o party c.args.meeting now =
     ap (λ (r : OwnRows). own_from r c.public_in-public.result now) c.in_ok-rows.ensures
-    ∙ ap (λ (p : PublicRecord). own_from (rows_in found party) p now) c.public_in-public.ensures
+    ∙ ap (λ (p : PublicRecord). own_from (own_rows_in found party) p now) c.public_in-public.ensures
     ∙ ap (λ (f : Option MeetingLists). own_in_some f o.closed party now) same in
     subst (λ (held : OfficeLists). IfOk c.own_from.result (λ (own : OwnView). own ≡ own_of held party c.args.meeting now)) c.self.view_is
     (IfOk-weaker c.own_from.result (λ (own : OwnView). own ≡ own_from c.in_ok-rows.rows c.public_in-public.result now)

@@ -21,4 +21,4 @@ returns-in-Some-clause-value c =
     let latest = rw (c.days.ensures.value, c.seconds.ensures.value) at c.in-Some.ensures.found in
     let is : IsBack c.args.self.now c.args.hours c.args.moment start =
     record { at_or_before = latest.within; leaves = latest.leaves; greatest = latest.latest } in
-    sym c.ok_or.ensures.ok_part ∙ some_only c.new.result start (c.new.ensures.valid.1 (omega (arith, latest.within, c.seconds.ensures.kept))) c.new.ensures.value ∙ sym (back-is c.args.self.now c.args.hours c.args.moment start is)
+    sym c.ok_or.ensures.ok_part ∙ some_only c.new.result start (c.new.ensures.valid.1 (omega (arith, latest.within, c.seconds.ensures.valid))) c.new.ensures.value ∙ sym (back-is c.args.self.now c.args.hours c.args.moment start is)

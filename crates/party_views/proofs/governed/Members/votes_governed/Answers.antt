@@ -3,7 +3,7 @@ use Rattle.std.proofs.lemmas.Result.{IfOk-weaker}
 use Rattle.vocabulary.specs.Places.{Places}
 use Rattle.proxy_rules.specs.declared.meeting_records.Cutoffs.{Cutoffs}
 use Rattle.party_views.specs.OwnViews.{governed_by}
-use Rattle.party_views.proofs.ViewKeptLemmas.{same_cutoffs-true}
+use Rattle.party_views.proofs.ViewPreservedLemmas.{same_cutoffs-true}
 use Rattle.party_views.proofs.governed.Members.votes_governed.Goals as goal
 
 -- by the same cutoffs it governs the same

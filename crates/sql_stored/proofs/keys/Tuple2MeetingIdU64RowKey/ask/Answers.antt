@@ -14,7 +14,7 @@ returns-clause-asked g c =
     let same : to_z w64 (of_z w64 number) ≡ number = search rules in
     inr (
       Text meeting ∷ Int number ∷ [],
-      record { meeting = meeting; number = number; is = refl; named = c.meeting_text.ensures; of = c.in_ok-number.ensures.kept },
+      record { meeting = meeting; number = number; is = refl; named = c.meeting_text.ensures; of = c.in_ok-number.ensures.reads_back },
       record {
         ok = λ clean. rw (c.params-to_sql.ensures, c.params-to_sql-2.ensures, same) at (c.query_all.ensures.ok clean);
         err = λ clean. rw (c.params-to_sql.ensures, c.params-to_sql-2.ensures, same) at (c.query_all.ensures.err clean);
