@@ -73,13 +73,14 @@ ShowsReply reply a = (a.status ≡ reply_status reply) × (a.body.items ≡ repl
 abbrev pub IsAnswer : Option Reply → Answered → Type 0
 IsAnswer found a = (reply : Reply) × (found ≡ Some reply) × ShowsReply reply a
 
--- why an unreadable request is not answered: its source failed; else memory was refused, for the text
--- of its refusal too
+-- why an unreadable request is not answered: its source failed; else memory was refused, for the
+-- text of its refusal too
 abbrev pub unread_fault : ReceiveError → AnswerError
 unread_fault unreceived.Failed = unanswered.CutOff
 unread_fault why = unanswered.Failure failure.Memory
 
--- why what was received of a caller is not answered: a request by a failure of the office or of memory
+-- why what was received of a caller is not answered: a request by a failure of the office or of
+-- memory
 abbrev pub AnswerMayFail : Result Request ReceiveError → AnswerError → Type 0
 AnswerMayFail (Ok request) why = (failed : Failure) × (why ≡ unanswered.Failure failed)
 AnswerMayFail (Err content) why = why ≡ unread_fault content

@@ -132,4 +132,5 @@ without_result other = other
 -- what is replied to a request, but for the result where the resolution is declared by it
 abbrev pub but_result : Secret → Request → Reply → Reply
 but_result secret request returned =
-    if declares_in secret.meeting secret.resolution request then without_result returned else returned
+    if declares_in secret.meeting secret.resolution request then without_result returned
+    else returned

@@ -78,7 +78,8 @@ AreSameButResult text_of one other = (one ≡ other) ⊎ AreBothResults text_of 
 -- voters
 pub record TextsAgree (text_of : Reply → List ℕ) (secret : Secret) (office : OfficeLists)
     (exchanged again : List Exchange) : Type 0 where
-  pub office_exchanged : texts_to (is_open_call secret) exchanged ≡ texts_to (is_open_call secret) again
+  pub office_exchanged : texts_to (is_open_call secret) exchanged
+      ≡ texts_to (is_open_call secret) again
   pub declared : AllZip (AreSameButResult text_of) (texts_to (asks_declaration secret) exchanged)
       (texts_to (asks_declaration secret) again)
   pub parties : IsTrue (are_before decided secret office (calls_made exchanged)) → (party : Party)

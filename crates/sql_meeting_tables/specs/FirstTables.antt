@@ -41,7 +41,8 @@ presences_before_sessions_emptied = record {
 
 -- ---- the demands of polls
 
-pub demands_before_sessions_listed : ListsTable layout_two demands_before_sessions demands_before_sessions_table
+pub demands_before_sessions_listed
+    : ListsTable layout_two demands_before_sessions demands_before_sessions_table
 unfolding understood everything
 demands_before_sessions_listed = record {
   asks = wide_one (ListsAs demands_before_sessions demands_before_sessions_table)
@@ -50,12 +51,15 @@ demands_before_sessions_listed = record {
   numbered = refl;
 }
 
-pub demands_before_sessions_made : MakesTable up_to_presences_before_sessions (filed_text demands_before_sessions_table) demands_before_sessions_table
+pub demands_before_sessions_made
+    : MakesTable up_to_presences_before_sessions (filed_text demands_before_sessions_table)
+    demands_before_sessions_table
 unfolding understood everything Rattle.sqlite_schema.specs.Names.same_name
 demands_before_sessions_made =
     record { is = refl; alone = refl; plain = (refl, refl); defined = refl; full = refl }
 
-pub demands_before_sessions_emptied : EmptiesTable demands_before_sessions demands_before_sessions_table
+pub demands_before_sessions_emptied
+    : EmptiesTable demands_before_sessions demands_before_sessions_table
 unfolding understood everything
 demands_before_sessions_emptied = record {
   place = 11;
@@ -65,7 +69,8 @@ demands_before_sessions_emptied = record {
 
 -- ---- the polls
 
-pub polls_before_sessions_listed : ListsTable layout_two polls_before_sessions polls_before_sessions_table
+pub polls_before_sessions_listed
+    : ListsTable layout_two polls_before_sessions polls_before_sessions_table
 unfolding understood everything
 polls_before_sessions_listed = record {
   asks = wide_one (ListsAs polls_before_sessions polls_before_sessions_table)
@@ -74,9 +79,12 @@ polls_before_sessions_listed = record {
   numbered = refl;
 }
 
-pub polls_before_sessions_made : MakesTable up_to_demands_before_sessions (once_text polls_before_sessions_table) polls_before_sessions_table
+pub polls_before_sessions_made
+    : MakesTable up_to_demands_before_sessions (once_text polls_before_sessions_table)
+    polls_before_sessions_table
 unfolding understood everything Rattle.sqlite_schema.specs.Names.same_name
-polls_before_sessions_made = record { is = refl; alone = refl; plain = (refl, refl); defined = refl; full = refl }
+polls_before_sessions_made =
+    record { is = refl; alone = refl; plain = (refl, refl); defined = refl; full = refl }
 
 pub polls_before_sessions_emptied : EmptiesTable polls_before_sessions polls_before_sessions_table
 unfolding understood everything

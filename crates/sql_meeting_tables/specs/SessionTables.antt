@@ -25,7 +25,8 @@ presences_listed = record {
 
 pub presences_made : MakesTable up_to_sessions (filed_text presences_table) presences_table
 unfolding understood everything Rattle.sqlite_schema.specs.Names.same_name
-presences_made = record { is = refl; alone = refl; plain = (refl, refl); defined = refl; full = refl }
+presences_made =
+    record { is = refl; alone = refl; plain = (refl, refl); defined = refl; full = refl }
 
 pub presences_added : AddsRows presences presences_table
 unfolding understood everything

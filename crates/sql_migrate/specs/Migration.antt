@@ -55,11 +55,14 @@ pub record CopiesAll {S : Type 0} (g : store.Ghosts S) (old new : Held S) : Type
   pub presences : Copies presences_before_sessions presences (state g old) (state g first)
   pub demands : Copies demands_before_sessions demands (state g first) (state g second)
   pub polls : Copies polls_before_sessions polls (state g second) (state g new)
-  pub presences_typed : CopiesTyped presences_before_sessions_table presences_before_sessions table.presences (state g old)
-      (state g first)
-  pub demands_typed : CopiesTyped demands_before_sessions_table demands_before_sessions table.demands (state g first)
-      (state g second)
-  pub polls_typed : CopiesTyped polls_before_sessions_table polls_before_sessions table.polls (state g second) (state g new)
+  pub presences_typed
+      : CopiesTyped presences_before_sessions_table presences_before_sessions table.presences
+      (state g old) (state g first)
+  pub demands_typed
+      : CopiesTyped demands_before_sessions_table demands_before_sessions table.demands
+      (state g first) (state g second)
+  pub polls_typed : CopiesTyped polls_before_sessions_table polls_before_sessions table.polls
+      (state g second) (state g new)
 
 -- no row of version 1 is left of them
 pub record EmptiesAll {S : Type 0} (g : store.Ghosts S) (old new : Held S) : Type 0 where

@@ -85,8 +85,8 @@ flat_with its_sessions its_presences its_demands its_polls trees = do
 -- the same of version 1, in which each meeting has one session
 unfoldable pub flat_one : Trees → Option FlatLists
 flat_one trees =
-    flat_with (Some []) (records_in presences_before_sessions trees) (records_in demands_before_sessions trees)
-    (records_in polls_before_sessions trees) trees
+    flat_with (Some []) (records_in presences_before_sessions trees)
+    (records_in demands_before_sessions trees) (records_in polls_before_sessions trees) trees
 
 -- a table has no row
 abbrev pub has_no_row : {A : Type 0} → TableOf A → Trees → Bool
@@ -95,7 +95,8 @@ has_no_row table trees = length (trees table.number) == 0
 -- the tables that version 2 leaves empty have no row
 abbrev pub are_left_empty : Trees → Bool
 are_left_empty trees =
-    has_no_row presences_before_sessions trees && has_no_row demands_before_sessions trees && has_no_row polls_before_sessions trees
+    has_no_row presences_before_sessions trees && has_no_row demands_before_sessions trees
+    && has_no_row polls_before_sessions trees
 
 -- the same of version 2, or nothing where a table that it leaves empty has a row
 unfoldable pub flat_two : Trees → Option FlatLists

@@ -93,11 +93,13 @@ casts = record { number = 24; columns = 2 ∷ 3 ∷ 4 ∷ 5 ∷ 6 ∷ 7 ∷ 8 �
 
 -- the presences, in order of receipt
 abbrev pub presences_before_sessions : TableOf (InMeeting PresenceMark)
-presences_before_sessions = record { number = 18; columns = 2 ∷ 3 ∷ 4 ∷ []; means = presence_before_sessions_in }
+presences_before_sessions =
+    record { number = 18; columns = 2 ∷ 3 ∷ 4 ∷ []; means = presence_before_sessions_in }
 
 -- the demands, in order of receipt
 abbrev pub demands_before_sessions : TableOf (InMeeting DemandMark)
-demands_before_sessions = record { number = 20; columns = 2 ∷ 3 ∷ 4 ∷ 5 ∷ []; means = demand_before_sessions_in }
+demands_before_sessions =
+    record { number = 20; columns = 2 ∷ 3 ∷ 4 ∷ 5 ∷ []; means = demand_before_sessions_in }
 
 -- the polls
 abbrev pub polls_before_sessions : TableOf (InMeeting Poll)

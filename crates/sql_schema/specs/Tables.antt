@@ -241,7 +241,8 @@ abbrev pub up_to_presences_before_sessions : Schema
 up_to_presences_before_sessions = created up_to_authorities presences_before_sessions_table
 
 abbrev pub up_to_demands_before_sessions : Schema
-up_to_demands_before_sessions = created up_to_presences_before_sessions demands_before_sessions_table
+up_to_demands_before_sessions =
+    created up_to_presences_before_sessions demands_before_sessions_table
 
 abbrev pub up_to_polls_before_sessions : Schema
 up_to_polls_before_sessions = created up_to_demands_before_sessions polls_before_sessions_table
@@ -282,7 +283,8 @@ demands_before_sessions_by_party = an_index "demands_by_party" 20 (2 ∷ 4 ∷ [
 
 abbrev pub up_to_demands_before_sessions_by_party : Schema
 up_to_demands_before_sessions_by_party =
-    indexed up_to_authorities_by_person (record demands_before_sessions_table { tree = 20 }) demands_before_sessions_by_party
+    indexed up_to_authorities_by_person (record demands_before_sessions_table { tree = 20 })
+    demands_before_sessions_by_party
 
 abbrev pub casts_by_voter : Index
 casts_by_voter = an_index "casts_by_voter" 24 (2 ∷ 4 ∷ [])
@@ -339,8 +341,8 @@ desk_schema = up_to_casts_by_resolution
 abbrev pub asked_one : List Table
 asked_one =
     desk_table ∷ keys_table ∷ closed_table ∷ meetings_table ∷ resolutions_table ∷ register_table
-    ∷ appointments_table ∷ endings_table ∷ authorities_table ∷ presences_before_sessions_table ∷ demands_before_sessions_table
-    ∷ polls_before_sessions_table ∷ casts_table ∷ []
+    ∷ appointments_table ∷ endings_table ∷ authorities_table ∷ presences_before_sessions_table
+    ∷ demands_before_sessions_table ∷ polls_before_sessions_table ∷ casts_table ∷ []
 
 abbrev pub asked_two : List Table
 asked_two =

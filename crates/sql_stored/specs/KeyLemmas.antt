@@ -60,8 +60,8 @@ module _ (columns places : List ℕ) (row : Row) where
         subst (λ (q : Row). passes (three_tests columns places) q row
         ≡ (same_name a m && (same_name b n && same_name d p)))
         (sym given.is)
-        (three_decide row (place 0) (place 1) (place 2) given.meeting m given.party n given.other p a
-        b d (name_at meeting_of 0 a held.0) given.named (name_at party_of 1 b held.1) given.of
+        (three_decide row (place 0) (place 1) (place 2) given.meeting m given.party n given.other p
+        a b d (name_at meeting_of 0 a held.0) given.named (name_at party_of 1 b held.1) given.of
         (name_at party_of 2 d held.2) given.with)
 
     pub of_numbered : (m n a b : List ℕ) (k d : ℕ) → NamesNumbered m n k params
