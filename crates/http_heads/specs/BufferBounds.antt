@@ -9,5 +9,5 @@ pub record IsInside
     (buffer : List ℕ) (filled : ℕ) (fields : List HeaderSpan) (head : RequestSpans) : Type 0 where
   pub capacity : length buffer ≡ 8192
   pub filled_fits : filled ≤ 8192
-  pub room : length fields ≡ 2731
+  pub room : length fields ≡ 32
   pub within : IsRequestWithin (take filled buffer) fields head

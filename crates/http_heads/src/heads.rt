@@ -1,18 +1,19 @@
 //! The reader of heads.
 ghost use Rattle.std.specs.Prelude.{◌≡◌, ℕ, ◌+◌, ◌<◌, ◌≤◌, List, [], ◌++◌, length, MatchOption, IsOk, IfOk, OnOk, OnErr, option_copied};
 ghost use Rattle.std.specs.Io.KnownBytes.{IsAtEnd};
-ghost use Rattle.httparse.specs.Spans.{IsRequestWithin};
+ghost use Rattle.httparse.specs.Grammar.{HasNoRequest, MayBecomeRequest};
+ghost use Rattle.httparse.specs.Spans.{IsRequestWithin, RequestOverflows};
 ghost use Rattle.byte_io.specs.Counts.{one_more};
 ghost use Rattle.http_heads.specs.Fields.{only_value};
-ghost use Rattle.http_heads.specs.Heads.{Finds, FindsKnown, IsOpen, ReceivesBytes, held_at};
+ghost use Rattle.http_heads.specs.Heads.{Finds, FindsKnown, FindsNoHead, IsOpen, ReceivesBytes, held_at};
 ghost use Rattle.http_heads.specs.Length.{body_length};
 
 use crate::fields;
 use crate::front::{Front, LONGEST_HEAD, MOST_FIELDS};
 use crate::length::{self, BodyLength};
 use byte_io::{DeviceError, Source};
-use httparse::Status;
 use httparse::spans::{EMPTY_HEADER_SPAN, HeaderSpan, RequestSpans, Span, parse_request};
+use httparse::{Error, Status};
 use std::marker::Model;
 
 /// A head of 8,192 bytes has fewer fields than this, since each has three bytes or more.
@@ -34,7 +35,7 @@ const NO_HEAD: RequestSpans = RequestSpans {
 pub struct HeadReader {
     buffer: [u8; LONGEST_HEAD],
     filled: usize,
-    fields: [HeaderSpan; MOST_SPANS],
+    fields: [HeaderSpan; MOST_FIELDS],
     head: RequestSpans,
 }
 
@@ -58,7 +59,7 @@ impl HeadReader {
         HeadReader {
             buffer: [0; LONGEST_HEAD],
             filled: 0,
-            fields: [EMPTY_HEADER_SPAN; MOST_SPANS],
+            fields: [EMPTY_HEADER_SPAN; MOST_FIELDS],
             head: NO_HEAD,
         }
     }
@@ -185,20 +186,51 @@ impl HeadReader {
     }
 }
 
+/// What bytes are, whatever follows, that hold no head and can become one; none where more are to
+/// come.
+fn unended(bytes: &[u8]) -> Option<Front>
+    requires short { length bytes.now ≤ LONGEST_HEAD }
+    requires none { HasNoRequest bytes.now }
+    requires unended { MayBecomeRequest bytes.now }
+    ensures { MatchOption result (IsOpen bytes.now) (FindsNoHead bytes.now) }
+{
+    if bytes.len() < LONGEST_HEAD {
+        None
+    } else {
+        Some(Front::TooLarge)
+    }
+}
+
+/// What bytes are, whatever follows, whose head has too many fields if there is one; none where
+/// more are to come. The room for the spans of all fields is large, and no other head is to pay for
+/// it.
+#[inline(never)]
+fn judge_crowded(bytes: &[u8]) -> Option<Front>
+    requires short { length bytes.now ≤ LONGEST_HEAD }
+    requires many { RequestOverflows MOST_FIELDS bytes.now }
+    ensures { MatchOption result (IsOpen bytes.now) (FindsNoHead bytes.now) }
+{
+    let mut fields = [EMPTY_HEADER_SPAN; MOST_SPANS];
+    match parse_request(bytes, &mut fields) {
+        Ok(Status::Complete(_)) => Some(Front::TooLarge),
+        Ok(Status::Partial) => unended(bytes),
+        Err(_) => Some(Front::Unreadable),
+    }
+}
+
 /// What the bytes are, whatever follows, and the spans of a whole head; none where more are to
 /// come.
 fn judge(bytes: &[u8], fields: &mut [HeaderSpan]) -> (Option<Front>, RequestSpans)
     requires short { length bytes.now ≤ LONGEST_HEAD }
-    requires room { MOST_SPANS ≤ length fields.old }
+    requires room { length fields.old ≡ MOST_FIELDS }
     ensures found { MatchOption result.0 (IsOpen bytes.now) (λ front. (left : List ℕ)
         → Finds front (bytes.now ++ left) left (held_at bytes.now fields.new result.1)) }
     ensures within { IsRequestWithin bytes.now fields.new result.1 }
 {
     match parse_request(bytes, fields) {
-        Ok(Status::Complete(head)) if head.headers <= MOST_FIELDS => (Some(Front::Whole), head),
-        Ok(Status::Complete(_)) => (Some(Front::TooLarge), NO_HEAD),
-        Ok(Status::Partial) if bytes.len() < LONGEST_HEAD => (None, NO_HEAD),
-        Ok(Status::Partial) => (Some(Front::TooLarge), NO_HEAD),
+        Ok(Status::Complete(head)) => (Some(Front::Whole), head),
+        Ok(Status::Partial) => (unended(bytes), NO_HEAD),
+        Err(error) if error == Error::TooManyHeaders => (judge_crowded(bytes), NO_HEAD),
         Err(_) => (Some(Front::Unreadable), NO_HEAD),
     }
 }

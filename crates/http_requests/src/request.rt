@@ -4,6 +4,7 @@ ghost use Rattle.json_requests.specs.RefusalResults.{or_unreadable};
 ghost use Rattle.json_requests.specs.Requests.{asked_on_route};
 ghost use Rattle.byte_io.specs.Counts.{one_more};
 ghost use Rattle.http_heads.specs.declared.front.TheConstants.{LONGEST_HEAD};
+ghost use Rattle.http_heads.specs.declared.length.TheConstants.{LONGEST_BODY};
 ghost use Rattle.http_requests.specs.RequestOfHead.{has_front, request_by, request_in, size_on, size_read, way_in};
 ghost use Rattle.http_requests.specs.ReceivedRequests.{HeadAsks, TakesAtMost, AgreesWith, IsBody, Spells, is_cut_off, source_failed};
 ghost use Rattle.http_requests.specs.RequestOfHead.{is_whole};
@@ -17,6 +18,9 @@ use desk_words::{Refusal, Request};
 use http_heads::{Front, HeadReader, LONGEST_BODY};
 use json_requests::{Route, Scratch};
 use std::alloc::Global;
+
+/// The most bytes of a body that is read into a small room, as nearly all bodies are.
+const SHORT_BODY: usize = 1_024;
 
 /// What is asked on a route by a whole body. The room that reading needs is large, and no caller is
 /// to pay for it.
@@ -68,6 +72,55 @@ fn request_by<S: Source>(
     }
 }
 
+/// What is asked on a way by a long body. The room that it is read into is large, and no short one
+/// is to pay for it.
+#[inline(never)]
+fn request_by_long<S: Source>(
+    alloc: Global,
+    way: Way,
+    behind: &[u8],
+    source: &mut S,
+) -> Result<Request, ReceiveError>
+    requires { way.size ≤ LONGEST_BODY }
+    ensures came { TakesAtMost
+        (λ bytes. AgreesWith (has_front way.size (behind.now ++ bytes))
+        (request_by way.route way.size (behind.now ++ bytes)) result)
+        (λ bytes. length bytes ≤ way.size - length behind.now)
+        (S.remaining source.old) (S.remaining source.new)
+        (S.passed source.old) (S.passed source.new) }
+    ensures works { source_failed result ≡ false → S.failures source.new ≡ S.failures source.old }
+    ensures failed { source_failed result ≡ true
+        → S.failures source.new ≡ one_more (S.failures source.old) }
+{
+    let mut buffer = [0; LONGEST_BODY];
+    request_by(alloc, way, behind, source, &mut buffer[..way.size])
+}
+
+/// What is asked on a way, whose body is read on.
+fn request_on<S: Source>(
+    alloc: Global,
+    way: Way,
+    behind: &[u8],
+    source: &mut S,
+) -> Result<Request, ReceiveError>
+    requires { way.size ≤ LONGEST_BODY }
+    ensures came { TakesAtMost
+        (λ bytes. AgreesWith (has_front way.size (behind.now ++ bytes))
+        (request_by way.route way.size (behind.now ++ bytes)) result)
+        (λ bytes. length bytes ≤ way.size - length behind.now)
+        (S.remaining source.old) (S.remaining source.new)
+        (S.passed source.old) (S.passed source.new) }
+    ensures works { source_failed result ≡ false → S.failures source.new ≡ S.failures source.old }
+    ensures failed { source_failed result ≡ true
+        → S.failures source.new ≡ one_more (S.failures source.old) }
+{
+    if way.size > SHORT_BODY {
+        return request_by_long(alloc, way, behind, source);
+    }
+    let mut room = [0; SHORT_BODY];
+    request_by(alloc, way, behind, source, &mut room[..way.size])
+}
+
 /// What is asked with a head, whose body is read on.
 fn request_in<S: Source>(
     alloc: Global,
@@ -85,8 +138,7 @@ fn request_in<S: Source>(
         → S.failures source.new ≡ one_more (S.failures source.old) }
 {
     let way = way_in(head)?;
-    let mut buffer = [0; LONGEST_BODY];
-    request_by(alloc, way, head.rest(), source, &mut buffer[..way.size])
+    request_on(alloc, way, head.rest(), source)
 }
 
 /// What a head asks, with the bytes behind it.

@@ -1,14 +1,8 @@
-use Rattle.std.proofs.Common.{ap, Err, inr}
-use Rattle.http_heads.proofs.HeadLemmas.{full_unfinished, never_broken, not_crowded}
+use Rattle.std.proofs.Common.{◌≡◌, true, true≢false, sym, ◌∙◌}
+use Rattle.http_heads.proofs.HeadLemmas.{never_broken}
 use Rattle.http_heads.proofs.heads.judge.Goals as goal
 
-pub returns-in-Ok-Partial-2-clause-found : goal.returns-in-Ok-Partial-2-clause-found
-returns-in-Ok-Partial-2-clause-found c =
-    let none = rw c.in-Ok-Partial.field-0-is at c.in-Ok-Partial.ensures.partial in
-    let may = rw c.in-Ok-Partial.field-0-is at c.in-Ok-Partial.ensures.unfinished in
-    λ left. inr (full_unfinished c.args.bytes.now left c.requires.short c.if-bytes-lt-LONGEST_HEAD.false none may)
-
-pub returns-in-Err-clause-found : goal.returns-in-Err-clause-found
-returns-in-Err-clause-found c =
-    let never = c.in-Err.ensures.invalid (λ e. not_crowded c.args.bytes.now _ c.requires.short c.requires.room (c.in-Err.ensures.too_many (ap Err e))) in
+pub returns-in-Err-2-clause-found : goal.returns-in-Err-2-clause-found
+returns-in-Err-2-clause-found c =
+    let never = c.in-Err.ensures.invalid (λ e. let met : c.eq.result ≡ true = rw e at c.eq.ensures in absurd (true≢false (sym met ∙ c.if-eq.false))) in
     λ left. never_broken c.args.bytes.now left c.requires.short never

@@ -13,4 +13,4 @@ returns-clause-came g c =
     let is = sym c.way_in.ensures.way ∙ c.in_ok-way.was in
     came-map (λ bytes content. asked-way c.args.head.now.asked c.in_ok-way.way c.args.head.now.rest _ bytes _ is c.rest.ensures content)
     (λ bytes content few. takes-way _ _ c.in_ok-way.way c.args.head.now.rest _ bytes _ _ is c.in_ok-way.ensures.bound c.rest.ensures content few)
-    c.request_by.ensures.came
+    c.request_on.ensures.came
