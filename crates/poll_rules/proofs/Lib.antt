@@ -1,3 +1,4 @@
+pub mod ActingLemmas
 pub mod GatherLemmas
 pub mod PollDemandLemmas
 pub mod PollPairLemmas

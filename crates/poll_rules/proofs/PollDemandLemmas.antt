@@ -1,21 +1,21 @@
 -- Sums of a demand.
-use Rattle.std.proofs.Common.{◌≡◌, ℕ, ◌+◌, ◌*◌, ◌^◌, ◌<◌, ◌≤◌, Bool, true, false, cond, List, [], ◌∷◌, length, get_or, take, refl, sym, ap, ◌∙◌, arith}
+use Rattle.std.proofs.Common.{◌≡◌, ℕ, ◌+◌, ◌*◌, ◌^◌, ◌<◌, ◌≤◌, Bool, true, false, cond, List, [], ◌∷◌, length, get_or, filter, map, take, nat_eq, refl, sym, ap, ◌∙◌, arith, true≢false}
 use Rattle.std.specs.Prelude.{◌&&◌, ◌||◌, nat_le, nat_lt, sum_by, count_by}
 use Rattle.std.specs.Cmp.{first_so, second_so}
-use Rattle.std.specs.Cmp.Lexicographic.{texts_ties}
-use Rattle.std.specs.Ordering.{is_eq}
 use Rattle.std.specs.List.{list_all}
 use Rattle.std.proofs.Math.Nat.{mul-le-mul_left}
 use Rattle.std.proofs.lemmas.List.Sums.{sum_by-cons, sum_by_more, sum_by_more_le, sum_by-take-le, sum_by-le-sum_by, count_by-le-length}
-use Rattle.std.proofs.Math.Bool.{or-false}
 use Rattle.std.proofs.lemmas.Bool.{leb-true}
+use Rattle.std.proofs.lemmas.Bool.Decides.{nat_tests}
 use Rattle.desk_words.specs.Office.{are_rows}
+use Rattle.seq.proofs.Filtered.{any-filter}
 use Rattle.seq.specs.Ordered.{ascends_by}
-use Rattle.vocabulary.specs.Names.{same_name, name_cmp}
+use Rattle.vocabulary.specs.Names.{same_name}
 use Rattle.vocabulary.specs.Places.{places_that}
 use Rattle.desk_words.specs.Registers.{all_shares, is_holding, keep_limits, member_before}
 use Rattle.desk_words.specs.declared.records.Appointment.{Appointment}
 use Rattle.desk_words.specs.declared.records.Authority.{Authority}
+use Rattle.desk_words.specs.declared.records.DemandMark.{DemandMark}
 use Rattle.desk_words.specs.declared.records.Ending.{Ending}
 use Rattle.desk_words.specs.declared.records.RegisterRow.{RegisterRow}
 use Rattle.desk_words.specs.declared.limits.TheConstants.{MOST_SHARES}
@@ -28,7 +28,11 @@ use Rattle.proxy_rules.specs.Tiles.{ArePieces, shares_if}
 use Rattle.proxy_rules.proofs.TileLemmas.{every_place, places_that-pieces, places_that_le}
 use Rattle.proxy_rules.proofs.ShareLemmas.{all_shares-le, shares_of-le}
 use Rattle.poll_rules.specs.DemandSums.{FitsRow, sums_by, with_row}
-use Rattle.poll_rules.specs.Demands.{by_a_representative, holder_demanded, names_one, paid_on, share_demands, shares_demanding}
+use Rattle.poll_rules.specs.Demands.{by_a_representative, demand_by, demand_of, has_demanded, holder_demanded, is_demand_in, is_enough, names_one, paid_on, share_demands, shares_demanding}
+use Rattle.poll_rules.specs.GatheredItems.{are_in}
+use Rattle.poll_rules.specs.declared.demand.Demand.{Demand}
+use Rattle.poll_rules.proofs.ActingLemmas.{nobody_may_act, none_demand}
+use Rattle.poll_rules.proofs.GatherLemmas.{list_any-map}
 
 -- ---- the shares of a row that demand
 
@@ -134,20 +138,45 @@ tenfold_paid f below rows h = let l = limits rows h in omega (arith, l.shares, p
 
 -- ---- those who demanded
 
--- one demand more on the resolution
-pub one_demander : (after so_far right : Bool) (party person : List ℕ) → after ≡ cond (is_eq (name_cmp party person)) true so_far → right ≡ true → after ≡ (so_far || (right && same_name party person))
-one_demander after so_far right party person put is =
-    put
-    ∙ ap (λ b. cond b true so_far) (sym (texts_ties party person))
-    ∙ either (same_name party person) so_far
-    ∙ ap (λ b. so_far || (b && same_name party person)) (sym is)
-  where
-    either : (a b : Bool) → cond a true b ≡ (b || a)
-    either true true = refl
-    either true false = refl
-    either false true = refl
-    either false false = refl
+-- they are those who have demanded
+pub have_demanded : (demands : List DemandMark) (session resolution : ℕ) (person : List ℕ)
+    → are_in (map (λ (d : DemandMark). d.party) (filter (is_demand_in session resolution) demands)) person ≡ has_demanded demands session resolution person
+have_demanded demands session resolution person =
+    list_any-map (λ other. same_name other person) (λ (d : DemandMark). d.party) (filter (is_demand_in session resolution) demands)
+    ∙ any-filter (λ (d : DemandMark). same_name d.party person) (is_demand_in session resolution) demands
 
--- one on another resolution
-pub no_demander : (so_far right same : Bool) → right ≡ false → so_far ≡ (so_far || (right && same))
-no_demander so_far right same not_right = sym (ap (λ b. so_far || (b && same)) not_right ∙ or-false so_far)
+-- a list that is tested to be empty has no items
+pub no_items : {X : Type 0} (xs : List X) (is_empty : Bool) → is_empty ≡ true → is_empty ≡ nat_eq (length xs) 0 → xs ≡ []
+no_items [] is_empty so is = refl
+no_items (x ∷ xs) is_empty so is =
+    let some : nat_eq (length (x ∷ xs)) 0 ≡ false = grind (arith, nat_tests) in
+    absurd (true≢false (sym so ∙ is ∙ some))
+
+-- where every number is 0, the sum is 0
+sum-none : {X : Type 0} (f : X → ℕ) → ((x : X) → f x ≡ 0) → (xs : List X) → sum_by f xs ≡ 0
+sum-none f none [] = refl
+sum-none f none (x ∷ xs) = omega (arith, sum_by-cons f x xs, none x, sum-none f none xs)
+
+-- where no share demands it, it is the demand of nobody
+pub no_demand : (f : RegisterRow → ℕ) → ((row : RegisterRow) → f row ≡ 0) → (rows : List RegisterRow) → ◌≡◌ {A = Demand} (record { members = 0; shares = 0; paid = 0; reached = false }) (demand_by f rows)
+no_demand f none rows =
+    let members = sum-none (λ (r : RegisterRow). cond (nat_lt 0 (f r)) 1 0) (λ r. ap (λ n. cond (nat_lt 0 n) 1 0) (none r)) rows in
+    let shares = sum-none f none rows in
+    let nothing : (paid : ℕ) → 0 * paid ≡ 0 = λ paid. omega arith in
+    let paid = sum-none (paid_on f) (λ r. ap (λ n. n * r.paid) (none r) ∙ nothing r.paid) rows in
+    sym (λ k. record {
+      members = members k;
+      shares = shares k;
+      paid = paid k;
+      reached = is_enough (members k) (shares k) (paid k) (sum_by shares_of rows) (sum_by (paid_on shares_of) rows);
+    })
+
+-- nobody demanded it
+pub nobody_demanded : (cutoffs : Cutoffs) (register : List RegisterRow) (given : List Appointment) (ended : List Ending) (authorities : List Authority) (demands : List DemandMark) (session resolution : ℕ)
+    → map (λ (d : DemandMark). d.party) (filter (is_demand_in session resolution) demands) ≡ []
+    → ◌≡◌ {A = Demand} (record { members = 0; shares = 0; paid = 0; reached = false }) (demand_of cutoffs register given ended authorities demands session resolution)
+nobody_demanded cutoffs register given ended authorities demands session resolution none =
+    let nobody : ◌≡◌ {A = List ℕ → Bool} (λ person. false) (has_demanded demands session resolution) = λ k person. (ap (λ persons. are_in persons person) (sym none) ∙ have_demanded demands session resolution person) k in
+    no_demand (shares_demanding (λ person. false) cutoffs given ended authorities)
+    (λ row. sym (none_demand (λ person. false) cutoffs given ended authorities row (nobody_may_act given authorities row.member))) register
+    ∙ ap (λ demanded. demand_by (shares_demanding demanded cutoffs given ended authorities) register) nobody

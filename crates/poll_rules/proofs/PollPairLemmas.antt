@@ -1,17 +1,18 @@
 -- Two persons who qualify.
 use Rattle.std.proofs.Common.{◌≡◌, ℕ, Bool, true, false, List, [], ◌∷◌, map, length, refl, sym, ap, ◌∙◌, arith, true≢false}
-use Rattle.std.specs.Prelude.{Option, Some, None, ◌&&◌, not, find}
+use Rattle.std.specs.Prelude.{Option, Some, None, ◌&&◌, ◌||◌, not, find}
 use Rattle.std.specs.List.{list_any}
 use Rattle.std.specs.Option.{option_map_or}
 use Rattle.seq.proofs.Filtered.{found-any, found-passes, none-found, none-narrower}
-use Rattle.std.proofs.lemmas.Bool.{not-false}
+use Rattle.std.proofs.lemmas.Bool.{not-false, or_right}
 use Rattle.std.specs.Cmp.{first_so, second_so}
 use Rattle.vocabulary.specs.Names.{same_name}
 use Rattle.vocabulary.specs.declared.kinds.Capacity.{Capacity}
 use Rattle.vocabulary.specs.declared.kinds.Capacity.TheVariants.{Member, Rep, Proxy}
-use Rattle.desk_words.proofs.WordRowLemmas.{same_name-true}
+use Rattle.desk_words.proofs.WordRowLemmas.{same_name-refl, same_name-true}
 use Rattle.desk_words.specs.declared.records.PresenceMark.{PresenceMark}
 use Rattle.desk_words.specs.declared.records.RegisterRow.{RegisterRow}
+use Rattle.poll_rules.specs.GatheredItems.{are_in}
 use Rattle.poll_rules.specs.Pairs.{first_qualifying, is_second, two_with_the_first}
 use Rattle.poll_rules.specs.Quorum.{are_two, is_quorum, qualifies, same_role}
 use Rattle.proxy_rules.specs.Parties.{same_capacity}
@@ -135,3 +136,25 @@ pub quorum-more : (rows : List RegisterRow) (roles : List ℕ → List Role) (pr
 quorum-more [] roles present some more = absurd (some refl)
 quorum-more (row ∷ []) roles present some more = absurd (more (omega arith))
 quorum-more (row ∷ second ∷ rows) roles present some more = sym (two-present roles present)
+
+-- ---- roles of those who are present
+
+-- tests that agree on each of the persons
+any-agree : (p q : List ℕ → Bool) (persons : List (List ℕ)) → ((person : List ℕ) → are_in persons person ≡ true → p person ≡ q person) → list_any p persons ≡ list_any q persons
+any-agree p q [] same = refl
+any-agree p q (x ∷ xs) same =
+    let first = same x (ap (λ b. b || are_in xs x) (same_name-refl x)) in
+    let rest = any-agree p q xs (λ person h. same person (or_right (same_name x person) (are_in xs person) h)) in
+    λ k. first k || rest k
+
+-- the roles of nobody else are asked
+pub quorum-agree : (rows : List RegisterRow) (roles others : List ℕ → List Role) (present : List (List ℕ)) → ((person : List ℕ) → are_in present person ≡ true → roles person ≡ others person)
+    → is_quorum rows roles present ≡ is_quorum rows others present
+quorum-agree [] roles others present same = refl
+quorum-agree (row ∷ []) roles others present same =
+    any-agree (λ person. qualifies (roles person)) (λ person. qualifies (others person)) present (λ person h. ap qualifies (same person h))
+quorum-agree (row ∷ second ∷ rows) roles others present same =
+    any-agree (λ person. list_any (λ other. not (same_name person other) && are_two (roles person) (roles other)) present)
+    (λ person. list_any (λ other. not (same_name person other) && are_two (others person) (others other)) present) present
+    (λ person h. any-agree (λ other. not (same_name person other) && are_two (roles person) (roles other)) (λ other. not (same_name person other) && are_two (others person) (others other)) present
+    (λ other k. λ i. not (same_name person other) && are_two (same person h i) (same other k i)))

@@ -2,12 +2,13 @@
 use Rattle.std.proofs.Common.{◌≡◌, ℕ, zero, suc, ◌+◌, ◌<◌, Bool, true, false, cond, List, [], ◌∷◌, ◌++◌, length, get_or, take, refl, sym, ap, ◌∙◌, arith}
 use Rattle.std.specs.Prelude.{◌||◌, not, nat_lt, sum_by, Option, Some, None, option_map}
 use Rattle.std.specs.Cmp.Lexicographic.{nat_list_cmp_total, texts_ties}
-use Rattle.std.specs.List.{cons_option, filter_map, list_any}
+use Rattle.std.specs.List.{cons_option, filter_map, flat_map, list_any}
 use Rattle.std.specs.Option.{option_map_or}
 use Rattle.std.specs.Ordering.{is_eq, is_lt, eq_by_cmp}
 use Rattle.std.specs.Set.{is_member}
 use Rattle.std.proofs.lemmas.Bool.Decides.{nat_tests}
-use Rattle.std.proofs.lemmas.List.{append-nil}
+use Rattle.std.proofs.lemmas.Grind.{flat_map-append}
+use Rattle.std.proofs.lemmas.List.{append-nil, take_more}
 use Rattle.std.proofs.lemmas.List.Folds.{list_any_more}
 use Rattle.std.proofs.lemmas.List.Sums.{sum_by-cons}
 use Rattle.seq.proofs.Booleans.{neither_first, neither_second}
@@ -20,6 +21,7 @@ use Rattle.vocabulary.specs.Names.{same_name, name_cmp}
 use Rattle.vocabulary.specs.declared.kinds.Capacity.{Capacity}
 use Rattle.desk_words.proofs.WordRowLemmas.{same_name-true}
 use Rattle.desk_words.specs.declared.records.Appointment.{Appointment}
+use Rattle.desk_words.specs.declared.records.RegisterRow.{RegisterRow}
 use Rattle.proxy_rules.specs.Tiles.{ArePieces, governing_of, places_in, shares_if}
 use Rattle.proxy_rules.specs.declared.holdings.Holding.{Holding}
 use Rattle.proxy_rules.specs.declared.meeting_records.Cutoffs.{Cutoffs}
@@ -105,3 +107,11 @@ pub proxies-shares : (person : List ℕ) (cutoffs : Cutoffs) (holding : Holding)
 proxies-shares person cutoffs holding pieces are = proxies-pieces person holding pieces ∙ ap (nat_lt 0) (places_that-pieces (names person) cutoffs holding pieces are)
 
 -- ---- rows
+
+-- the roles by one row more
+pub roles-more : (by : RegisterRow → List Role) (rows : List RegisterRow) (i : ℕ) (row : RegisterRow) → i < length rows → row ≡ get_or rows i row → flat_map by (take (i + 1) rows) ≡ flat_map by (take i rows) ++ by row
+roles-more by rows i row lt is =
+    ap (flat_map by) (take_more rows i row lt)
+    ∙ flat_map-append by (take i rows) (get_or rows i row ∷ [])
+    ∙ ap (λ r. flat_map by (take i rows) ++ (by r ++ [])) (sym is)
+    ∙ ap (λ l. flat_map by (take i rows) ++ l) (append-nil (by row))

@@ -1,17 +1,10 @@
 -- Sums of a demand, row by row. For private contracts.
-use Rattle.std.specs.Prelude.{ℕ, Bool, ◌+◌, ◌*◌, ◌<◌, ◌^◌, nat_lt, List, count_by, sum_by, if◌then◌else◌}
-use Rattle.std.specs.BTreeSet.{BTreeSet, contains}
-use Rattle.vocabulary.specs.Names.{name_cmp}
-use Rattle.desk_words.specs.ViewTypes.{Party}
+use Rattle.std.specs.Prelude.{ℕ, ◌+◌, ◌*◌, ◌<◌, ◌^◌, nat_lt, List, count_by, sum_by, if◌then◌else◌}
 use Rattle.desk_words.specs.declared.records.RegisterRow.{RegisterRow}
 use Rattle.proxy_rules.specs.Shares.{shares_of}
 use Rattle.poll_rules.specs.Demands.{is_enough, paid_on}
 use Rattle.poll_rules.specs.declared.demand.Demand.{Demand}
 use Rattle.poll_rules.specs.declared.demand.Sums.{Sums}
-
--- the set has the person
-abbrev pub is_one_of : BTreeSet Party → Party → Bool
-is_one_of persons person = contains name_cmp persons person
 
 -- the sums of rows of each of which so many shares demand
 abbrev pub sums_by : (RegisterRow → ℕ) → List RegisterRow → Sums

@@ -1,3 +1,4 @@
+pub mod Acting
 pub mod DemandSums
 pub mod Demands
 pub mod GatheredItems

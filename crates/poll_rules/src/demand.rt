@@ -1,14 +1,17 @@
 //! The demand of a poll.
-ghost use Rattle.std.specs.Prelude.{◌≡◌, ◌≤◌, ◌<◌, ◌*◌, ◌^◌, ◌||◌, ℕ, List, [], true, IfOk, sum_by};
+ghost use Rattle.std.specs.Prelude.{◌≡◌, ◌≤◌, ◌<◌, ◌*◌, ◌^◌, ◌||◌, ℕ, List, [], true, IfOk, filter, map, sum_by};
 ghost use Rattle.std.specs.List.{list_any};
-ghost use Rattle.std.specs.Option.{option_copied};
+ghost use Rattle.desk_words.specs.declared.records.DemandMark.{DemandMark};
 ghost use Rattle.desk_words.specs.Office.{are_numbered_after, are_rows};
 ghost use Rattle.proxy_rules.specs.Holdings.{are_tags};
 ghost use Rattle.proxy_rules.specs.Tiles.{shares_if};
-ghost use Rattle.poll_rules.specs.DemandSums.{FitsRow, demand_from, is_one_of, sums_by, with_row};
-ghost use Rattle.poll_rules.specs.Demands.{by_a_representative, holder_demanded, demand_of, has_demanded, is_demand_in, is_enough, names_one, shares_demanding};
+ghost use Rattle.poll_rules.specs.Acting.{is_one_of, some_may_act};
+ghost use Rattle.poll_rules.specs.DemandSums.{FitsRow, demand_from, sums_by, with_row};
+ghost use Rattle.poll_rules.specs.Demands.{by_a_representative, holder_demanded, demand_of, is_demand_in, is_enough, names_one, shares_demanding};
+ghost use Rattle.poll_rules.specs.GatheredItems.{are_in};
 
-use desk_words::{Appointment, Authority, DemandMark, Filed, HolderKind, Party, RegisterRow};
+use crate::acting::{members_of, names_one, set_of};
+use desk_words::{Authority, DemandMark, Filed, HolderKind, Party, RegisterRow};
 use proxy_rules::{Cutoffs, GovernedPiece, Holding, Papers, authorised_by, shares};
 use std::alloc::{AllocError, Global};
 use std::collections::BTreeSet;
@@ -26,6 +29,14 @@ pub struct Demand {
     /// least a tenth of all shares by number or by the sum paid up on them.
     pub reached: bool,
 }
+
+/// That of nobody.
+const NO_DEMAND: Demand = Demand {
+    members: 0,
+    shares: 0,
+    paid: 0,
+    reached: false,
+};
 
 /// The sums of a demand over some rows.
 #[derive(Clone, Copy)]
@@ -61,18 +72,16 @@ fn demanders(
     demands: &[DemandMark],
     session: u64,
     resolution: u64,
-) -> Result<BTreeSet<Party>, AllocError>
-    ensures { IfOk result
-        (λ persons. (person : List ℕ)
-        → is_one_of persons person ≡ has_demanded demands.now session resolution person) }
+) -> Result<Vec<Party>, AllocError>
+    ensures { IfOk result (λ persons. persons.items
+        ≡ map (λ (demand : DemandMark). demand.party)
+        (filter (is_demand_in session resolution) demands.now)) }
 {
-    let mut persons = BTreeSet::new(alloc);
-    for demand in demands {
-        if is_demand_in(demand, session, resolution) {
-            persons.insert(demand.party)?;
-        }
-    }
-    Ok(persons)
+    demands
+        .iter()
+        .filter(|demand| is_demand_in(demand, session, resolution))
+        .map(|demand| demand.party)
+        .collect(alloc)
 }
 
 /// Whether any of these persons demands it.
@@ -100,16 +109,6 @@ fn holder_demands(
             Ok(any_demands(demanders, persons.as_slice()))
         }
         HolderKind::Treasury => Ok(false),
-    }
-}
-
-/// Whether the appointment names a proxy who demands it.
-fn names_one(demanders: &BTreeSet<Party>, by: Option<&Appointment>) -> bool
-    ensures { result ≡ names_one (is_one_of demanders.now) (option_copied by.entry) }
-{
-    match by {
-        Some(appointment) => demanders.contains(&appointment.proxy),
-        None => false,
     }
 }
 
@@ -165,6 +164,34 @@ fn demanding(
     Ok(shares_of_demanders(demanders, &holding, pieces.as_slice()))
 }
 
+/// How many shares of the row demand it. Where no demander may act for its member, none do, and
+/// nothing is looked up.
+fn demanding_if_any(
+    alloc: Global,
+    cutoffs: &Cutoffs,
+    papers: &Papers,
+    demanders: &BTreeSet<Party>,
+    members: &BTreeSet<Party>,
+    row: &RegisterRow,
+) -> Result<u64, AllocError>
+    requires tags { are_tags papers.now.appointments.now ≡ true }
+    requires numbered { are_numbered_after [] papers.now.appointments.now ≡ true }
+    requires few { row.now.shares ≤ 10 ^ 12 }
+    requires members { (member : List ℕ) → is_one_of members.now member
+        ≡ some_may_act (is_one_of demanders.now) papers.now.appointments.now
+        papers.now.authorities.now member }
+    ensures { IfOk result
+        (λ shares. shares
+        ≡ shares_demanding (is_one_of demanders.now) cutoffs.now papers.now.appointments.now
+        papers.now.endings.now papers.now.authorities.now row.now) }
+{
+    if members.contains(&row.member) {
+        demanding(alloc, cutoffs, papers, demanders, row)
+    } else {
+        Ok(0)
+    }
+}
+
 /// Counts one row more, of which so many shares demand.
 fn add_row(sums: &mut Sums, row: &RegisterRow, demanding: u64)
     requires { FitsRow sums.old row.now demanding }
@@ -179,16 +206,20 @@ fn add_row(sums: &mut Sums, row: &RegisterRow, demanding: u64)
     sums.all_paid += shares(row) * row.paid;
 }
 
-/// The sums over the rows.
+/// The sums over the rows, where the demanders may act for these members alone.
 fn sums_over(
     alloc: Global,
     cutoffs: &Cutoffs,
     papers: &Papers,
     demanders: &BTreeSet<Party>,
+    members: &BTreeSet<Party>,
 ) -> Result<Sums, AllocError>
     requires tags { are_tags papers.now.appointments.now ≡ true }
     requires numbered { are_numbered_after [] papers.now.appointments.now ≡ true }
     requires rows { are_rows papers.now.register.now ≡ true }
+    requires members { (member : List ℕ) → is_one_of members.now member
+        ≡ some_may_act (is_one_of demanders.now) papers.now.appointments.now
+        papers.now.authorities.now member }
     ensures { IfOk result
         (λ sums. sums
         ≡ sums_by
@@ -198,10 +229,32 @@ fn sums_over(
 {
     let mut sums = NOTHING;
     for row in papers.register {
-        let demanding = demanding(alloc, cutoffs, papers, demanders, row)?;
+        let demanding = demanding_if_any(alloc, cutoffs, papers, demanders, members, row)?;
         add_row(&mut sums, row, demanding);
     }
     Ok(sums)
+}
+
+/// The sums over the rows, where these persons demand it.
+fn sums_for(
+    alloc: Global,
+    cutoffs: &Cutoffs,
+    papers: &Papers,
+    persons: &[Party],
+) -> Result<Sums, AllocError>
+    requires tags { are_tags papers.now.appointments.now ≡ true }
+    requires numbered { are_numbered_after [] papers.now.appointments.now ≡ true }
+    requires rows { are_rows papers.now.register.now ≡ true }
+    ensures { IfOk result
+        (λ sums. sums
+        ≡ sums_by
+        (shares_demanding (are_in persons.now) cutoffs.now papers.now.appointments.now
+        papers.now.endings.now papers.now.authorities.now)
+        papers.now.register.now) }
+{
+    let demanders = set_of(alloc, persons)?;
+    let members = members_of(alloc, papers, persons)?;
+    sums_over(alloc, cutoffs, papers, &demanders, &members)
 }
 
 /// Whether the shares that demand have at least five holders, or are a tenth of all shares by
@@ -222,7 +275,8 @@ fn is_enough(sums: &Sums) -> bool
 /// The demand, in the session of that number, of a poll on a resolution: a share demands it if the
 /// individual who holds it, a representative of the corporation that holds it, or the proxy who
 /// governs it by these cutoffs has demanded it in this session (sections 321, 323 and 329). Treasury
-/// shares are none. The error is want of memory.
+/// shares are none. The error is want of memory. Where nobody demanded it, it reads no row; else it
+/// looks up what those members gave for whom a demander may act.
 pub fn demand_reached(
     alloc: Global,
     cutoffs: &Cutoffs,
@@ -239,8 +293,12 @@ pub fn demand_reached(
         papers.now.endings.now papers.now.authorities.now papers.now.demands.now session
         resolution) }
 {
-    let demanders = demanders(alloc, papers.demands.as_slice(), session, resolution)?;
-    let sums = sums_over(alloc, cutoffs, papers, &demanders)?;
+    let found = demanders(alloc, papers.demands.as_slice(), session, resolution)?;
+    let persons = found.as_slice();
+    if persons.is_empty() {
+        return Ok(NO_DEMAND);
+    }
+    let sums = sums_for(alloc, cutoffs, papers, persons)?;
     Ok(Demand {
         members: sums.members,
         shares: sums.shares,

@@ -2,6 +2,7 @@
 //! the demand of a poll. The rules of proxies stand below it, and are handed on.
 #![tactic(auto)]
 
+mod acting;
 mod demand;
 mod gathered;
 pub mod laws;

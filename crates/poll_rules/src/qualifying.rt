@@ -73,6 +73,14 @@ fn present_in(
         .collect(alloc)
 }
 
+/// Who is marked.
+fn parties_of(alloc: Global, marks: &[PresenceMark]) -> Result<Vec<Party>, AllocError>
+    ensures { IfOk result
+        (λ persons. persons.items ≡ map (λ (mark : PresenceMark). mark.party) marks.now) }
+{
+    marks.iter().map(|mark| mark.party).collect(alloc)
+}
+
 /// Whether someone who is present qualifies.
 fn someone_qualifies(presences: &[PresenceMark], roles: &BTreeMap<Party, Vec<Role>>) -> bool
     ensures { result
@@ -150,7 +158,7 @@ fn make_quorum(
 /// cutoffs (section 324). Where one row alone is no treasury row, one such person makes the quorum;
 /// where there are more, two different ones do, but not two who both act for one corporation alone
 /// or both for one member as proxies alone. With no such row there is no quorum. The error is want
-/// of memory.
+/// of memory. It looks up what those members gave for whom someone who is present may act.
 pub fn quorum(
     alloc: Global,
     cutoffs: &Cutoffs,
@@ -166,7 +174,8 @@ pub fn quorum(
         ≡ quorum_of cutoffs.now papers.now.register.now papers.now.appointments.now
         papers.now.endings.now papers.now.authorities.now papers.now.presences.now session) }
 {
-    let roles = roles_by_person(alloc, cutoffs, papers)?;
     let present = present_in(alloc, papers.presences.as_slice(), session)?;
+    let persons = parties_of(alloc, present.as_slice())?;
+    let roles = roles_by_person(alloc, cutoffs, papers, persons.as_slice())?;
     Ok(make_quorum(papers.register, present.as_slice(), &roles))
 }

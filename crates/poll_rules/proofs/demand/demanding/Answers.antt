@@ -5,7 +5,7 @@ use Rattle.proxy_rules.specs.Tiles.{ArePieces, shares_if}
 use Rattle.proxy_rules.specs.declared.holdings.Holding.{Holding}
 use Rattle.proxy_rules.proofs.ProxyValidLemmas.{valid_by}
 use Rattle.proxy_rules.proofs.ShareLemmas.{shares_of-le}
-use Rattle.poll_rules.specs.DemandSums.{is_one_of}
+use Rattle.poll_rules.specs.Acting.{is_one_of}
 use Rattle.poll_rules.specs.Demands.{names_one}
 use Rattle.poll_rules.proofs.PollDemandLemmas.{all_demand, demanding-le, pieces_demand}
 use Rattle.poll_rules.proofs.demand.demanding.Goals as goal

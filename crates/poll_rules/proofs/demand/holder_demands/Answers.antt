@@ -6,7 +6,7 @@ use Rattle.proxy_rules.specs.Shares.{is_corporation, is_individual}
 use Rattle.std.specs.Prelude.{◌&&◌}
 use Rattle.vocabulary.specs.Names.{same_name}
 use Rattle.desk_words.specs.declared.records.Authority.{Authority}
-use Rattle.poll_rules.specs.DemandSums.{is_one_of}
+use Rattle.poll_rules.specs.Acting.{is_one_of}
 use Rattle.poll_rules.proofs.GatherLemmas.{any-authorised}
 use Rattle.poll_rules.proofs.demand.holder_demands.Goals as goal
 

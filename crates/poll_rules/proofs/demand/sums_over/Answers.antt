@@ -1,5 +1,6 @@
 use Rattle.std.proofs.Common.{ℕ, take, subst, sym, ap, ◌∙◌}
-use Rattle.poll_rules.specs.DemandSums.{FitsRow, is_one_of, sums_by, with_row}
+use Rattle.poll_rules.specs.Acting.{is_one_of}
+use Rattle.poll_rules.specs.DemandSums.{FitsRow, sums_by, with_row}
 use Rattle.poll_rules.specs.Demands.{shares_demanding}
 use Rattle.poll_rules.specs.declared.demand.Sums.{Sums}
 use Rattle.poll_rules.proofs.PollDemandLemmas.{demanding-le, sums_fit, sums-more}

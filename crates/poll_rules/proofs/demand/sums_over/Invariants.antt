@@ -1,5 +1,6 @@
 use Rattle.std.proofs.Common.{◌≡◌, take}
-use Rattle.poll_rules.specs.DemandSums.{is_one_of, sums_by}
+use Rattle.poll_rules.specs.Acting.{is_one_of}
+use Rattle.poll_rules.specs.DemandSums.{sums_by}
 use Rattle.poll_rules.specs.Demands.{shares_demanding}
 use Rattle.poll_rules.proofs.demand.sums_over.Given as goal
 
