@@ -1,8 +1,9 @@
 """Words that are wrong, and scripts on standard input: their limits, and readers and writers that fail."""
+import contextlib
 import subprocess
 import threading
 
-from runs.checked import Ended, shell_status
+from runs.checked import SECONDS, Ended, shell_status
 
 LIMIT = 16777216
 TOO_LARGE = '{"code":4,"refused":"TooLarge"}\n'
@@ -29,6 +30,8 @@ def run(runs):
     """, given=example("replay"))
     whole_scripts(runs)
     long_lines(runs)
+    found = in_turn(runs.program, example("replay").splitlines(True))
+    runs.compare("desk replay < lines, each after the answer to the one before", found, output=example("replies"))
     runs.ends("replay", 3, error="ReadFault", stdin="/dev/zero")
     runs.ends("replay", 3, error="ReadFault", stdin=runs.room)
     runs.ends("replay", 3, error="WriteFault", given=example("replay"), stdout="/dev/full")
@@ -72,6 +75,23 @@ def one_by_one(program, given):
         writer.start()
         output, error = running.stdout.read(), running.stderr.read()
         writer.join()
+    return Ended(shell_status(running.returncode), output, error)
+
+
+def in_turn(program, lines):
+    """How a replay ends whose input comes from a pipe, each line once the answer to the one before has come."""
+    pipe = subprocess.PIPE
+    with subprocess.Popen([program, "replay"], stdin=pipe, stdout=pipe, stderr=pipe, bufsize=0) as running:
+        limit = threading.Timer(SECONDS, running.kill)
+        limit.start()
+        output = b""
+        with contextlib.suppress(BrokenPipeError):
+            for line in lines:
+                running.stdin.write(line)
+                output += running.stdout.readline()
+        running.stdin.close()
+        output, error = output + running.stdout.read(), running.stderr.read()
+        limit.cancel()
     return Ended(shell_status(running.returncode), output, error)
 
 

@@ -82,6 +82,16 @@ impl LineReader {
         self.taken
     }
 
+    /// Whether the line feed of the next line was read ahead, so that `next_line` will not touch the
+    /// source.
+    pub fn is_line_ahead(&mut self) -> bool
+        ensures ahead { IsTrue result ↔ HasFeed self.old.pending }
+        ensures same { self.new ≡ self.old }
+        ensures bound { self.old.taken ≤ longest_input + 1 }
+    {
+        self.find_feed().is_some()
+    }
+
     /// Takes the next line of the input from its front, and shows a whole one by `line`.
     ///
     /// A line that is too long is passed over. An input that is too long is a fault once no whole
@@ -124,6 +134,7 @@ impl LineReader {
 
         // An end of a line that was read ahead is answered without a read.
         ensures ahead { HasFeed self.old.pending → IsOk result × (source.new ≡ source.old) }
+        ensures line_ahead { HasFeed self.old.pending → result ≢ Ok NextLine.End }
     {
         match self.find_feed() {
             Some(place) => Ok(self.give_fed_line(place)),
@@ -131,7 +142,8 @@ impl LineReader {
         }
     }
 
-    /// The place of the first line feed among the pending bytes.
+    /// The place of the first line feed among the pending bytes. The bytes before it are searched
+    /// once.
     fn find_feed(&mut self) -> Option<usize>
         ensures place { MatchOption result (feed_place self.old.pending ≡ length self.old.pending)
             (λ place. (place ≡ feed_place self.old.pending) × (place < length self.old.pending)) }
@@ -141,9 +153,7 @@ impl LineReader {
     {
         let pending = self.window.pending();
         let found = scan::find_feed(pending, self.searched);
-        if found.is_none() {
-            self.searched = pending.len();
-        }
+        self.searched = found.unwrap_or(pending.len());
         found
     }
 

@@ -1,4 +1,5 @@
 pub mod BookLemmas
+pub mod Gathering
 pub mod MomentFirst
 pub mod Progress
 pub mod ReplayRunLaws

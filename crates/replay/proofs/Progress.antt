@@ -1,20 +1,22 @@
 -- How far a replay has come.
-use Rattle.std.proofs.Common.{◌≡◌, ℕ, ◌+◌, ◌≤◌, Bool, true, false, List, [], ◌∷◌, ◌++◌, length, take, refl, ap, subst, sym, ◌∙◌, arith, append_assoc, append-nil, length-append}
+use Rattle.std.proofs.Common.{◌≡◌, inl, inr, ℕ, ◌+◌, ◌≤◌, Bool, true, false, List, [], ◌∷◌, ◌++◌, length, take, refl, ap, subst, sym, ◌∙◌, arith, append_assoc, append-nil, length-append}
 use Rattle.std.specs.Prelude.{All, Option, Some, None, IfSome}
-use Rattle.std.proofs.Math.Seq.{take-append-add, take-append_seam}
+use Rattle.std.proofs.Math.Seq.{take-append_seam}
 use Rattle.std.proofs.lemmas.List.{take-append-drop}
 use Rattle.std.proofs.lemmas.List.Elements.{All-push}
-use Rattle.std.specs.Io.KnownBytes.{Appends, IsAtEnd, Keeps}
+use Rattle.std.specs.Io.KnownBytes.{Appends, IsAtEnd}
 use Rattle.byte_io.specs.Written.{AppendsPrefix}
 use Rattle.line_reader.specs.FirstLine.{StaysInLine}
 use Rattle.line_reader.specs.Lines.{feed_place, feeds_in, lines_of, first_line, after_line}
-use Rattle.line_reader.specs.NextLine.{SameWhole}
+use Rattle.line_reader.specs.NextLine.{SameWhole, unread}
 use Rattle.line_reader.proofs.Feeds.{feeds_in-append, feeds_in-none, feeds_in-line}
 use Rattle.line_reader.proofs.LineLaws.{lines_of-cons}
 use Rattle.desk_words.specs.declared.office.OfficeLists.{OfficeLists}
 use Rattle.desk_words.specs.declared.reply.Failure.{Failure}
 use Rattle.meeting_core.specs.Step.{run_of}
+use Rattle.replay.proofs.Gathering.{gathered-chained, gathered-longer_part, gathered-part, gathered-written, none_written}
 use Rattle.replay.proofs.ReplayRunLaws.{answered_in_turn, run_in_turn}
+use Rattle.replay.specs.Gathered.{IsGathered}
 use Rattle.replay.specs.ReplayRuns.{calls_of}
 use Rattle.replay.specs.ReplaySteps.{replay_state, AnswersFirst, Stops, Turns}
 use Rattle.replay.specs.Transcript.{line_answered, transcript, AreAnsweredOn, IsAnsweredSoFarOn, IsAnsweredInPartOn, LineMayFail, IsReplayedUntilOn}
@@ -59,31 +61,12 @@ after_lines-push o [] (x ∷ fs) l f h = absurd (omega arith)
 after_lines-push o (m ∷ ls) [] l f h = absurd (omega arith)
 after_lines-push o (m ∷ ls) (x ∷ fs) l f h = after_lines-push (line_answered x o m).office ls fs l f (omega arith)
 
-appends-chained : (a b c : Option (List ℕ)) (xs ys : List ℕ) → Appends a b xs → Appends b c ys → Appends a c (xs ++ ys)
-appends-chained None b c xs ys p q = tt
-appends-chained (Some x) None c xs ys p q = absurd p
-appends-chained (Some x) (Some y) None xs ys p q = absurd q
-appends-chained (Some x) (Some y) (Some z) xs ys p q = q ∙ ap (λ l. l ++ ys) p ∙ append_assoc x xs ys
-
-appends-preserved : (a b c : Option (List ℕ)) (xs : List ℕ) → Appends a b xs → Keeps b c → Appends a c xs
-appends-preserved None b c xs p q = tt
-appends-preserved (Some x) None c xs p q = absurd p
-appends-preserved (Some x) (Some y) None xs p q = absurd q
-appends-preserved (Some x) (Some y) (Some z) xs p q = q ∙ p
-
 -- the bytes that were given as lines, and those that were lost, are all that came
 came : (input given bytes lost left : List ℕ) (taken : ℕ) → input ≡ given ++ bytes → bytes ≡ lost ++ left → taken + length left ≡ 0 + length input → take taken input ≡ given ++ lost
 came input given bytes lost left taken e f n =
     let split : input ≡ (given ++ lost) ++ left = e ∙ ap (λ x. given ++ x) f ∙ sym (append_assoc given lost left) in
     let all : taken ≡ length (given ++ lost) = omega (arith, n, ap length split, length-append (given ++ lost) left) in
     ap (λ k. take k input) all ∙ ap (λ x. take (length (given ++ lost)) x) split ∙ take-append_seam (given ++ lost) left
-
--- what is written whole, and then a part
-prefix-behind : (a b c : Option (List ℕ)) (xs ys : List ℕ) → Appends a b xs → AppendsPrefix b c ys → AppendsPrefix a c (xs ++ ys)
-prefix-behind a b c xs ys p q =
-    let n = q.0 in
-    let cut : take (length xs + n) (xs ++ ys) ≡ xs ++ take n ys = take-append-add xs ys n in
-    (length xs + n, simp length-append (omega (arith, q.1)), subst (Appends a c) (sym cut) (appends-chained a b c xs (take n ys) p q.2))
 
 nothing_left : (unread : Option (List ℕ)) (rest : List ℕ) → unread ≡ Some rest → IsAtEnd unread → rest ≡ []
 nothing_left None rest h e = absurd (cc)
@@ -102,11 +85,11 @@ module _ (may_fail : Failure → Type 0) (start : OfficeLists) where
     pub written : IsWritten (transcript start done failed)
 
   -- one line more, of which this is written
-  done_more : (done : List (List ℕ)) (bytes : List ℕ) (office after : OfficeLists) (old mid : Option (List ℕ)) (IsWritten IsNext : List ℕ → Type 0) → Done done office (Appends old mid)
+  done_more : (done : List (List ℕ)) (bytes : List ℕ) (office after : OfficeLists) (IsBefore IsNext IsWritten : List ℕ → Type 0) → Done done office IsBefore
       → AnswersFirst may_fail bytes office after IsNext
-      → ((xs ys : List ℕ) → Appends old mid xs → IsNext ys → IsWritten (xs ++ ys))
+      → ((xs ys : List ℕ) → IsBefore xs → IsNext ys → IsWritten (xs ++ ys))
       → Done (done ++ first_line bytes ∷ []) after IsWritten
-  done_more done bytes office after old mid IsWritten IsNext d a join =
+  done_more done bytes office after IsBefore IsNext IsWritten d a join =
       let first = first_line bytes in
       let here : line_answered a.failed office first ≡ line_answered a.failed (after_lines start done d.failed) first = ap (λ o. line_answered a.failed o first) d.office_is in
       record {
@@ -118,9 +101,10 @@ module _ (may_fail : Failure → Type 0) (start : OfficeLists) where
             (join (transcript start done d.failed) (line_answered a.failed office first).text d.written a.written);
       }
 
-  done_preserved : (done : List (List ℕ)) (office : OfficeLists) (old mid new : Option (List ℕ)) → Done done office (Appends old mid) → Keeps mid new → Done done office (Appends old new)
-  done_preserved done office old mid new d preserved =
-      record { failed = d.failed; each = d.each; causes = d.causes; office_is = d.office_is; written = appends-preserved old mid new _ d.written preserved }
+  -- what is written for them is so too
+  done_as : (done : List (List ℕ)) (office : OfficeLists) (IsBefore IsWritten : List ℕ → Type 0) → Done done office IsBefore → ((xs : List ℕ) → IsBefore xs → IsWritten xs) → Done done office IsWritten
+  done_as done office IsBefore IsWritten d so =
+      record { failed = d.failed; each = d.each; causes = d.causes; office_is = d.office_is; written = so (transcript start done d.failed) d.written }
 
   -- so they are answered on what stores the office after them
   answered_on : (done lines : List (List ℕ)) (office : OfficeLists) (IsLeft : OfficeLists → Type 0) (IsWritten : List ℕ → Type 0) → Done done office IsWritten → lines ≡ done → IsLeft office
@@ -134,8 +118,8 @@ module _ (may_fail : Failure → Type 0) (start : OfficeLists) where
         left = subst IsLeft (d.office_is ∙ after_run start done d.failed) left;
       })
 
-  -- so many lines of the input are answered, at least as many as line feeds were given, the rest is unread, and this is the office after them
-  pub record Progress (input : List ℕ) (unread : Option (List ℕ)) (office : OfficeLists) (old new : Option (List ℕ)) : Type 0 where
+  -- so many lines of the input are answered, at least as many as line feeds were given, the rest is unread, this is the office after them, and this waits of what is written for them
+  pub record Progress (input : List ℕ) (unread : Option (List ℕ)) (office : OfficeLists) (old new : Option (List ℕ)) (waiting : List ℕ) : Type 0 where
     pub rest : List ℕ
     pub unread_is : unread ≡ Some rest
     pub given : List ℕ
@@ -143,11 +127,11 @@ module _ (may_fail : Failure → Type 0) (start : OfficeLists) where
     pub done : List (List ℕ)
     pub lines : lines_of input ≡ done ++ lines_of rest
     pub fed : feeds_in given ≤ length done
-    pub answered : Done done office (Appends old new)
+    pub answered : Done done office (IsGathered old new waiting)
 
-  one_more_line : (input rest rest' : List ℕ) (office after : OfficeLists) (old mid new : Option (List ℕ)) (p : Progress input (Some rest) office old mid) → p.rest ≡ rest → rest' ≡ after_line rest
-      → AnswersFirst may_fail rest office after (Appends mid new) → Progress input (Some rest') after old new
-  one_more_line input rest rest' office after old mid new p same rest_is a =
+  one_more_line : (input rest rest' : List ℕ) (office after : OfficeLists) (old mid new : Option (List ℕ)) (waiting last : List ℕ) (p : Progress input (Some rest) office old mid waiting) → p.rest ≡ rest
+      → rest' ≡ after_line rest → AnswersFirst may_fail rest office after (λ text. IsGathered mid new last (waiting ++ text)) → Progress input (Some rest') after old new last
+  one_more_line input rest rest' office after old mid new waiting last p same rest_is a =
       let first = first_line rest in
       let line = take (feed_place rest + 1) rest in
       let parts : rest ≡ line ++ rest' = sym (take-append-drop (feed_place rest + 1) rest) ∙ ap (λ r. line ++ r) (sym rest_is) in
@@ -160,40 +144,56 @@ module _ (may_fail : Failure → Type 0) (start : OfficeLists) where
         lines = p.lines ∙ ap (λ r. p.done ++ lines_of r) same ∙ ap (λ ls. p.done ++ ls) (lines_of-cons rest a.some_left ∙ ap (λ r. first ∷ lines_of r) (sym rest_is))
             ∙ sym (append_assoc p.done (first ∷ []) (lines_of rest'));
         fed = omega (arith, feeds_in-append p.given line, feeds_in-line rest, p.fed, length-append p.done (first ∷ []));
-        answered = done_more p.done rest office after old mid (Appends old new) (Appends mid new) p.answered a (appends-chained old mid new);
+        answered = done_more p.done rest office after (IsGathered old mid waiting) (λ text. IsGathered mid new last (waiting ++ text)) (IsGathered old new last) p.answered a
+            (λ xs ys before next. gathered-chained old mid new xs ys waiting last before next);
       }
 
   -- one line more is answered
-  pub progress_more : (input : List ℕ) (unread left : Option (List ℕ)) (office after : OfficeLists) (old mid new : Option (List ℕ)) → Progress input unread office old mid
-      → Turns may_fail true (replay_state unread office mid) (replay_state left after new) → Progress input left after old new
-  progress_more input None left office after old mid new p t = absurd (let h = p.unread_is in cc)
-  progress_more input (Some bytes) None office after old mid new p t = absurd t
-  progress_more input (Some bytes) (Some rest) office after old mid new p t =
-      one_more_line input bytes rest office after old mid new p (rest_of bytes p.rest p.unread_is) t.0 t.1
+  pub progress_more : (input : List ℕ) (unread left : Option (List ℕ)) (office after : OfficeLists) (old mid new : Option (List ℕ)) (waiting last : List ℕ) → Progress input unread office old mid waiting
+      → Turns may_fail true (replay_state unread office mid waiting) (replay_state left after new last) → Progress input left after old new last
+  progress_more input None left office after old mid new waiting last p t = absurd (let h = p.unread_is in cc)
+  progress_more input (Some bytes) None office after old mid new waiting last p t = absurd t
+  progress_more input (Some bytes) (Some rest) office after old mid new waiting last p t =
+      one_more_line input bytes rest office after old mid new waiting last p (rest_of bytes p.rest p.unread_is) t.0 t.1
 
   module _ (IsLeft : OfficeLists → Type 0) where
     -- all lines are answered
-    pub progress_all : (input : List ℕ) (unread : Option (List ℕ)) (office after : OfficeLists) (old mid new : Option (List ℕ)) → Progress input unread office old mid
-        → IsAtEnd unread → Keeps mid new → after ≡ office → IsLeft after → AreAnsweredOn may_fail start IsLeft (lines_of input) (Appends old new)
-    progress_all input unread office after old mid new p end preserved same left =
+    pub progress_all : (input : List ℕ) (unread : Option (List ℕ)) (office after : OfficeLists) (old mid new : Option (List ℕ)) (waiting : List ℕ) → Progress input unread office old mid waiting
+        → IsAtEnd unread → Appends mid new waiting → after ≡ office → IsLeft after → AreAnsweredOn may_fail start IsLeft (lines_of input) (Appends old new)
+    progress_all input unread office after old mid new waiting p end written same left =
         let all : lines_of input ≡ p.done = p.lines ∙ ap (λ r. p.done ++ lines_of r) (nothing_left unread p.rest p.unread_is end) ∙ append-nil p.done in
-        answered_on p.done (lines_of input) office IsLeft (Appends old new) (done_preserved p.done office old mid new p.answered preserved) all (subst IsLeft same left)
+        answered_on p.done (lines_of input) office IsLeft (Appends old new)
+        (done_as p.done office (IsGathered old mid waiting) (Appends old new) p.answered (λ xs before. gathered-written old mid new xs waiting before written)) all (subst IsLeft same left)
 
-    stopped_reading : (input rest : List ℕ) (left : Option (List ℕ)) (taken : ℕ) (office after : OfficeLists) (old mid new : Option (List ℕ)) (p : Progress input (Some rest) office old mid) → p.rest ≡ rest
-        → Keeps mid new → StaysInLine (Some rest) left → SameWhole 0 (Some input) taken left → after ≡ office → IsLeft after → IsAnsweredSoFarOn may_fail start IsLeft input taken old new
-    stopped_reading input rest None taken office after old mid new p same preserved lost whole is stands = absurd lost
-    stopped_reading input rest (Some left) taken office after old mid new p same preserved lost whole is stands =
+    stopped_reading : (input rest : List ℕ) (left : Option (List ℕ)) (taken : ℕ) (office after : OfficeLists) (old mid new : Option (List ℕ)) (waiting : List ℕ)
+        (p : Progress input (Some rest) office old mid waiting) → p.rest ≡ rest
+        → Appends mid new waiting → StaysInLine (Some rest) left → SameWhole 0 (Some input) taken left → after ≡ office → IsLeft after → IsAnsweredSoFarOn may_fail start IsLeft input taken old new
+    stopped_reading input rest None taken office after old mid new waiting p same written lost whole is stands = absurd lost
+    stopped_reading input rest (Some left) taken office after old mid new waiting p same written lost whole is stands =
         let all : take taken input ≡ p.given ++ lost.0 = came input p.given rest lost.0 left taken (p.input_is ∙ ap (λ r. p.given ++ r) same) lost.1 whole in
         let done : take (length p.done) (lines_of input) ≡ p.done = ap (λ ls. take (length p.done) ls) p.lines ∙ take-append_seam p.done (lines_of p.rest) in
         record {
           count = length p.done;
           each_that_came = omega (arith, ap feeds_in all, feeds_in-append p.given lost.0, feeds_in-none lost.0 lost.2, p.fed);
-          answered = answered_on p.done _ office IsLeft (Appends old new) (done_preserved p.done office old mid new p.answered preserved) done (subst IsLeft is stands);
+          answered = answered_on p.done _ office IsLeft (Appends old new)
+              (done_as p.done office (IsGathered old mid waiting) (Appends old new) p.answered (λ xs before. gathered-written old mid new xs waiting before written)) done (subst IsLeft is stands);
         }
 
-    stopped_writing : (input bytes : List ℕ) (office after : OfficeLists) (old mid new : Option (List ℕ)) (p : Progress input (Some bytes) office old mid) → p.rest ≡ bytes
-        → AnswersFirst may_fail bytes office after (AppendsPrefix mid new) → IsLeft after → IsAnsweredInPartOn may_fail start IsLeft input old new
-    stopped_writing input bytes office after old mid new p same a left =
+    -- what waited was written in part
+    stopped_before : (input : List ℕ) (unread : Option (List ℕ)) (office after : OfficeLists) (old mid new : Option (List ℕ)) (waiting : List ℕ) (p : Progress input unread office old mid waiting)
+        → AppendsPrefix mid new waiting → after ≡ office → IsLeft after → IsAnsweredInPartOn may_fail start IsLeft input old new
+    stopped_before input unread office after old mid new waiting p part is stands =
+        let done : take (length p.done) (lines_of input) ≡ p.done = ap (λ ls. take (length p.done) ls) p.lines ∙ take-append_seam p.done (lines_of p.rest) in
+        record {
+          count = length p.done;
+          answered = answered_on p.done _ office IsLeft (AppendsPrefix old new)
+              (done_as p.done office (IsGathered old mid waiting) (AppendsPrefix old new) p.answered (λ xs before. gathered-part old mid new xs waiting before part)) done (subst IsLeft is stands);
+        }
+
+    -- and of the answer to one line more
+    stopped_behind : (input bytes : List ℕ) (office after : OfficeLists) (old mid new : Option (List ℕ)) (waiting : List ℕ) (p : Progress input (Some bytes) office old mid waiting) → p.rest ≡ bytes
+        → AnswersFirst may_fail bytes office after (λ text. AppendsPrefix mid new (waiting ++ text)) → IsLeft after → IsAnsweredInPartOn may_fail start IsLeft input old new
+    stopped_behind input bytes office after old mid new waiting p same a left =
         let lines = p.done ++ first_line bytes ∷ [] in
         let later = lines_of (after_line bytes) in
         let split : lines_of input ≡ lines ++ later = p.lines ∙ ap (λ r. p.done ++ lines_of r) same ∙ ap (λ ls. p.done ++ ls) (lines_of-cons bytes a.some_left)
@@ -202,39 +202,64 @@ module _ (may_fail : Failure → Type 0) (start : OfficeLists) where
         record {
           count = length lines;
           answered = answered_on lines _ after IsLeft (AppendsPrefix old new)
-              (done_more p.done bytes office after old mid (AppendsPrefix old new) (AppendsPrefix mid new) p.answered a (prefix-behind old mid new)) read left;
+              (done_more p.done bytes office after (IsGathered old mid waiting) (λ text. AppendsPrefix mid new (waiting ++ text)) (AppendsPrefix old new) p.answered a
+              (λ xs ys before next. gathered-longer_part old mid new xs ys waiting before next)) read left;
         }
 
     -- a device ended the replay
-    pub progress_stopped : (fault : ReplayFault) (input : List ℕ) (unread left last : Option (List ℕ)) (taken : ℕ) (office after : OfficeLists) (old mid new : Option (List ℕ)) → Progress input unread office old mid
-        → Stops may_fail fault left (replay_state unread office mid) (replay_state last after new) → IsLeft after → SameWhole 0 (Some input) taken left → IsReplayedUntilOn may_fail start IsLeft fault input taken old new
-    progress_stopped Read input None left last taken office after old mid new p s stands w = absurd (let h = p.unread_is in cc)
-    progress_stopped Read input (Some bytes) left last taken office after old mid new p s stands w =
-        stopped_reading input bytes left taken office after old mid new p (rest_of bytes p.rest p.unread_is) s.0 s.1 w s.2 stands
-    progress_stopped Write input None left last taken office after old mid new p s stands w = absurd (let h = p.unread_is in cc)
-    progress_stopped Write input (Some bytes) left last taken office after old mid new p s stands w = stopped_writing input bytes office after old mid new p (rest_of bytes p.rest p.unread_is) s stands
+    pub progress_stopped : (fault : ReplayFault) (input : List ℕ) (unread left last : Option (List ℕ)) (taken : ℕ) (office after : OfficeLists) (old mid new : Option (List ℕ)) (waiting behind : List ℕ)
+        → Progress input unread office old mid waiting → Stops may_fail fault left (replay_state unread office mid waiting) (replay_state last after new behind) → IsLeft after → SameWhole 0 (Some input) taken left
+        → IsReplayedUntilOn may_fail start IsLeft fault input taken old new
+    progress_stopped Read input None left last taken office after old mid new waiting behind p s stands w = absurd (let h = p.unread_is in cc)
+    progress_stopped Read input (Some bytes) left last taken office after old mid new waiting behind p s stands w =
+        stopped_reading input bytes left taken office after old mid new waiting p (rest_of bytes p.rest p.unread_is) s.0 s.1 w s.2 stands
+    progress_stopped Write input unread left last taken office after old mid new waiting behind p (inl s) stands w = stopped_before input unread office after old mid new waiting p s.0 s.1 stands
+    progress_stopped Write input None left last taken office after old mid new waiting behind p (inr s) stands w = absurd (let h = p.unread_is in cc)
+    progress_stopped Write input (Some bytes) left last taken office after old mid new waiting behind p (inr s) stands w =
+        stopped_behind input bytes office after old mid new waiting p (rest_of bytes p.rest p.unread_is) s stands
 
   -- ---- where the input is known
 
-  pub known_more : (known unread left : Option (List ℕ)) (more : Bool) (office after : OfficeLists) (old mid new : Option (List ℕ))
-      → IfSome known (λ input. Progress input unread office old mid) → more ≡ true → Turns may_fail more (replay_state unread office mid) (replay_state left after new)
-      → IfSome known (λ input. Progress input left after old new)
-  known_more None unread left more office after old mid new p h t = tt
-  known_more (Some input) unread left more office after old mid new p h t =
-      progress_more input unread left office after old mid new p (subst (λ (m : Bool). Turns may_fail m (replay_state unread office mid) (replay_state left after new)) h t)
+  -- at the beginning no line is answered, and nothing waits
+  pub known_first : (known : Option (List ℕ)) (pending : List ℕ) (old : Option (List ℕ)) (waiting : List ℕ) → pending ≡ [] → waiting ≡ []
+      → IfSome known (λ input. Progress input (unread pending known) start old old waiting)
+  known_first None pending old waiting e none = tt
+  known_first (Some input) pending old waiting e none = record {
+    rest = input;
+    unread_is = ap (λ (p : List ℕ). unread p (Some input)) e;
+    given = [];
+    input_is = refl;
+    done = [];
+    lines = refl;
+    fed = omega (arith, feeds_in-none [] refl);
+    answered = record {
+      failed = [];
+      each = refl;
+      causes = λ k d less. absurd (omega (arith, less));
+      office_is = refl;
+      written = subst (λ (w : List ℕ). IsGathered old old w []) (sym none) (none_written old []);
+    };
+  }
+
+  pub known_more : (known unread left : Option (List ℕ)) (more : Bool) (office after : OfficeLists) (old mid new : Option (List ℕ)) (waiting last : List ℕ)
+      → IfSome known (λ input. Progress input unread office old mid waiting) → more ≡ true → Turns may_fail more (replay_state unread office mid waiting) (replay_state left after new last)
+      → IfSome known (λ input. Progress input left after old new last)
+  known_more None unread left more office after old mid new waiting last p h t = tt
+  known_more (Some input) unread left more office after old mid new waiting last p h t =
+      progress_more input unread left office after old mid new waiting last p (subst (λ (m : Bool). Turns may_fail m (replay_state unread office mid waiting) (replay_state left after new last)) h t)
 
   module _ (IsLeft : OfficeLists → Type 0) where
-    pub known_all : (known unread left : Option (List ℕ)) (more : Bool) (office after : OfficeLists) (old mid new : Option (List ℕ))
-        → IfSome known (λ input. Progress input unread office old mid) → more ≡ false → Turns may_fail more (replay_state unread office mid) (replay_state left after new) → IsLeft after
-        → IfSome known (λ input. AreAnsweredOn may_fail start IsLeft (lines_of input) (Appends old new))
-    known_all None unread left more office after old mid new p h t stands = tt
-    known_all (Some input) unread left more office after old mid new p h t stands =
-        let end = subst (λ (m : Bool). Turns may_fail m (replay_state unread office mid) (replay_state left after new)) h t in
-        progress_all IsLeft input unread office after old mid new p end.0 end.1 end.2 stands
+    pub known_all : (known unread left : Option (List ℕ)) (more : Bool) (office after : OfficeLists) (old mid new : Option (List ℕ)) (waiting last : List ℕ)
+        → IfSome known (λ input. Progress input unread office old mid waiting) → more ≡ false → Turns may_fail more (replay_state unread office mid waiting) (replay_state left after new last)
+        → IsLeft after → IfSome known (λ input. AreAnsweredOn may_fail start IsLeft (lines_of input) (Appends old new))
+    known_all None unread left more office after old mid new waiting last p h t stands = tt
+    known_all (Some input) unread left more office after old mid new waiting last p h t stands =
+        let end = subst (λ (m : Bool). Turns may_fail m (replay_state unread office mid waiting) (replay_state left after new last)) h t in
+        progress_all IsLeft input unread office after old mid new waiting p end.0 end.1 end.2 stands
 
-    pub known_stopped : (known unread left last : Option (List ℕ)) (fault : ReplayFault) (taken : ℕ) (office after : OfficeLists) (old mid new : Option (List ℕ))
-        → IfSome known (λ input. Progress input unread office old mid) → Stops may_fail fault left (replay_state unread office mid) (replay_state last after new) → IsLeft after → SameWhole 0 known taken left
-        → IfSome known (λ input. IsReplayedUntilOn may_fail start IsLeft fault input taken old new)
-    known_stopped None unread left last fault taken office after old mid new p s stands w = tt
-    known_stopped (Some input) unread left last fault taken office after old mid new p s stands w =
-        progress_stopped IsLeft fault input unread left last taken office after old mid new p s stands w
+    pub known_stopped : (known unread left rest : Option (List ℕ)) (fault : ReplayFault) (taken : ℕ) (office after : OfficeLists) (old mid new : Option (List ℕ)) (waiting last : List ℕ)
+        → IfSome known (λ input. Progress input unread office old mid waiting) → Stops may_fail fault left (replay_state unread office mid waiting) (replay_state rest after new last)
+        → IsLeft after → SameWhole 0 known taken left → IfSome known (λ input. IsReplayedUntilOn may_fail start IsLeft fault input taken old new)
+    known_stopped None unread left rest fault taken office after old mid new waiting last p s stands w = tt
+    known_stopped (Some input) unread left rest fault taken office after old mid new waiting last p s stands w =
+        progress_stopped IsLeft fault input unread left rest taken office after old mid new waiting last p s stands w

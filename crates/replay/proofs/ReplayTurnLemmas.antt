@@ -1,14 +1,14 @@
 -- What one turn of a replay answers.
-use Rattle.std.proofs.Common.{◌≡◌, inl, ℕ, ◌<◌, ◌==◌, Bool, true, false, cond, List, [], ◌∷◌, length, length-append, refl, ap, subst, sym, ◌∙◌, arith}
+use Rattle.std.proofs.Common.{◌≡◌, inl, inr, ℕ, ◌<◌, ◌==◌, Bool, true, false, cond, List, [], ◌∷◌, ◌++◌, length, length-append, refl, ap, subst, sym, ◌∙◌, arith}
 use Rattle.std.specs.Prelude.{Option, Some, None, IfSome, Result, Ok, Err, IfOk, IfErr, nat_lt}
 use Rattle.std.specs.declared.alloc.Global.{Global}
 use Rattle.std.specs.declared.vec.Vec.{Vec}
 use Rattle.std.proofs.lemmas.Bool.Decides.{nat_tests}
-use Rattle.std.specs.Io.KnownBytes.{Appends, IsAtEnd}
+use Rattle.std.specs.Io.KnownBytes.{IsAtEnd}
 use Rattle.any_office.specs.declared.Office as home
 use Rattle.byte_io.specs.Written.{AppendsPrefix}
 use Rattle.line_reader.specs.Lines.{first_line}
-use Rattle.line_reader.specs.NextLine.{NextIs, longest_line, unread}
+use Rattle.line_reader.specs.NextLine.{NextIs, SameWhole, longest_line, unread}
 use Rattle.line_reader.specs.declared.outcome.NextLine.TheVariants.{Whole, TooLong}
 use Rattle.vocabulary.specs.declared.refusal.Refusal.{Refusal}
 use Rattle.vocabulary.specs.declared.refusal.Refusal.TheVariants.{TooLarge}
@@ -17,6 +17,8 @@ use Rattle.desk_words.specs.declared.reply.Failure.{Failure}
 use Rattle.desk_words.specs.declared.reply.Failure.TheVariants.{Memory}
 use Rattle.desk_words.specs.declared.reply.Reply.TheVariants.{Refused}
 use Rattle.json_replies.specs.Replies.{reply_bytes}
+use Rattle.replay.proofs.Gathering.{gathered-same}
+use Rattle.replay.specs.Gathered.{IsGathered}
 use Rattle.replay.specs.ReplayLines.{asked_in_line, parsed_call}
 use Rattle.replay.specs.ReplaySteps.{replay_state, err_of, AnswersLine, AnswersFirst, Stops, Turns}
 use Rattle.replay.specs.ReplayRuns.{as_line}
@@ -86,30 +88,59 @@ module _ {O : Type 0} (g : home.Ghosts O) where
     written = subst IsWritten a.text_is written;
   }
 
-  -- the office that is stored after a turn
-  abbrev pub TurnsTo : O → Bool → Option (List ℕ) → OfficeLists → Option (List ℕ) → Option (List ℕ) → Option (List ℕ) → Type 0
-  TurnsTo new more unread before old left mid = (after : OfficeLists) × g.stands new after × Turns g.may_fail more (replay_state unread before old) (replay_state left after mid)
+  -- the office that is stored after a turn, where this was written and waited before it, and after it
+  abbrev pub TurnsTo : O → Option (List ℕ) → OfficeLists → Option (List ℕ) → List ℕ → Option (List ℕ) → Option (List ℕ) → List ℕ → Type 0
+  TurnsTo new unread before old waiting left mid last =
+      (after : OfficeLists) × g.stands new after × Turns g.may_fail true (replay_state unread before old waiting) (replay_state left after mid last)
 
-  abbrev pub StopsAt : O → Option (List ℕ) → Option (List ℕ) → OfficeLists → Option (List ℕ) → Option (List ℕ) → Option (List ℕ) → Type 0
-  StopsAt new remaining unread before old left mid = (after : OfficeLists) × g.stands new after × Stops g.may_fail Write remaining (replay_state unread before old) (replay_state left after mid)
+  abbrev pub StopsAt : O → Option (List ℕ) → Option (List ℕ) → OfficeLists → Option (List ℕ) → List ℕ → Option (List ℕ) → Option (List ℕ) → List ℕ → Type 0
+  StopsAt new remaining unread before old waiting left mid last =
+      (after : OfficeLists) × g.stands new after × Stops g.may_fail Write remaining (replay_state unread before old waiting) (replay_state left after mid last)
 
   -- a whole line was answered
-  pub turns-whole : (unread left : Option (List ℕ)) (line : List ℕ) (before : OfficeLists) (text : Result (Vec ℕ Global) Failure) (new : O) (old mid : Option (List ℕ))
-      → NextIs Whole unread left line → AnswersLine g before line text new → Appends old mid (text_or_failure text) → TurnsTo new true unread before old left mid
-  turns-whole None left line before text new old mid given a written = ((line_answered (err_of text) before line).office, a.stands, tt)
-  turns-whole (Some bytes) None line before text new old mid given a written = absurd given.1
-  turns-whole (Some bytes) (Some rest) line before text new old mid given a written =
+  pub turns-whole : (unread left : Option (List ℕ)) (line : List ℕ) (before : OfficeLists) (text : Result (Vec ℕ Global) Failure) (new : O) (old mid : Option (List ℕ)) (waiting last : List ℕ)
+      → NextIs Whole unread left line → AnswersLine g before line text new → IsGathered old mid last (waiting ++ text_or_failure text) → TurnsTo new unread before old waiting left mid last
+  turns-whole None left line before text new old mid waiting last given a written = ((line_answered (err_of text) before line).office, a.stands, tt)
+  turns-whole (Some bytes) None line before text new old mid waiting last given a written = absurd given.1
+  turns-whole (Some bytes) (Some rest) line before text new old mid waiting last given a written =
       let first : AnswersLine g before (first_line bytes) text new = subst (λ (l : List ℕ). AnswersLine g before l text new) given.1.2 a in
-      (_, first.stands, (given.1.1, first_answered bytes before text new (Appends old mid) given.1.0 first written))
+      (_, first.stands, (given.1.1, first_answered bytes before text new (λ t. IsGathered old mid last (waiting ++ t)) given.1.0 first written))
 
-  -- the answer to a whole line was written in part
-  pub stops-whole : (unread left remaining : Option (List ℕ)) (line : List ℕ) (before : OfficeLists) (text : Result (Vec ℕ Global) Failure) (new : O) (old mid : Option (List ℕ))
-      → NextIs Whole unread left line → AnswersLine g before line text new → AppendsPrefix old mid (text_or_failure text) → StopsAt new remaining unread before old left mid
-  stops-whole None left remaining line before text new old mid given a written = ((line_answered (err_of text) before line).office, a.stands, tt)
-  stops-whole (Some bytes) None remaining line before text new old mid given a written = absurd given.1
-  stops-whole (Some bytes) (Some rest) remaining line before text new old mid given a written =
+  -- an empty line was passed over
+  pub turns-empty : (unread left : Option (List ℕ)) (line : List ℕ) (before : OfficeLists) (new : O) (old mid : Option (List ℕ)) (waiting last : List ℕ)
+      → NextIs Whole unread left line → (length line == 0) ≡ true → g.stands new before → IsGathered old mid last waiting → TurnsTo new unread before old waiting left mid last
+  turns-empty None left line before new old mid waiting last given empty stands written = (before, stands, tt)
+  turns-empty (Some bytes) None line before new old mid waiting last given empty stands written = absurd given.1
+  turns-empty (Some bytes) (Some rest) line before new old mid waiting last given empty stands written =
+      let none : (length (first_line bytes) == 0) ≡ true = ap (λ (l : List ℕ). length l == 0) (sym given.1.2) ∙ empty in
+      let here : line_answered None before (first_line bytes) ≡ skipped before = ap (λ b. cond b (skipped before) (unless_failed None before (first_line bytes))) none in (
+        before,
+        stands,
+        (
+          given.1.1,
+          record {
+            some_left = given.1.0;
+            failed = None;
+            cause = tt;
+            after_is = sym (ap (λ (a : Answered). a.office) here);
+            written = subst (λ (a : Answered). IsGathered old mid last (waiting ++ a.text)) (sym here) (gathered-same old mid waiting last written);
+          },
+        ),
+      )
+
+  -- the writer failed before the next line was taken
+  pub stops-before : (unread left remaining : Option (List ℕ)) (before : OfficeLists) (new : O) (old mid : Option (List ℕ)) (waiting last : List ℕ)
+      → g.stands new before → AppendsPrefix old mid waiting → StopsAt new remaining unread before old waiting left mid last
+  stops-before unread left remaining before new old mid waiting last stands part = (before, stands, inl (part, refl))
+
+  -- of what waited and the answer to a whole line a part was written
+  pub stops-whole : (unread left remaining : Option (List ℕ)) (line : List ℕ) (before : OfficeLists) (text : Result (Vec ℕ Global) Failure) (new : O) (old mid : Option (List ℕ)) (waiting last : List ℕ)
+      → NextIs Whole unread left line → AnswersLine g before line text new → AppendsPrefix old mid (waiting ++ text_or_failure text) → StopsAt new remaining unread before old waiting left mid last
+  stops-whole None left remaining line before text new old mid waiting last given a written = ((line_answered (err_of text) before line).office, a.stands, inr tt)
+  stops-whole (Some bytes) None remaining line before text new old mid waiting last given a written = absurd given.1
+  stops-whole (Some bytes) (Some rest) remaining line before text new old mid waiting last given a written =
       let first : AnswersLine g before (first_line bytes) text new = subst (λ (l : List ℕ). AnswersLine g before l text new) given.1.2 a in
-      (_, first.stands, first_answered bytes before text new (AppendsPrefix old mid) given.1.0 first written)
+      (_, first.stands, inr (first_answered bytes before text new (λ t. AppendsPrefix old mid (waiting ++ t)) given.1.0 first written))
 
   too_long : (bytes : List ℕ) (before : OfficeLists) (text : Result (Vec ℕ Global) Failure) (new : O) → longest_line < length (first_line bytes)
       → IfOk text (λ t. t.items ≡ as_line (reply_bytes (Refused TooLarge))) → IfErr text (λ why. why ≡ Memory) → g.stands new before → AnswersLine g before (first_line bytes) text new
@@ -117,24 +148,24 @@ module _ {O : Type 0} (g : home.Ghosts O) where
       answers-refused before (first_line bytes) TooLarge text new (omega arith) (asked-too_long (first_line bytes) long) is cause stands
 
   -- a line that is too long was answered
-  pub turns-too_long : (unread left : Option (List ℕ)) (line : List ℕ) (before : OfficeLists) (text : Result (Vec ℕ Global) Failure) (new : O) (old mid : Option (List ℕ))
+  pub turns-too_long : (unread left : Option (List ℕ)) (line : List ℕ) (before : OfficeLists) (text : Result (Vec ℕ Global) Failure) (new : O) (old mid : Option (List ℕ)) (waiting last : List ℕ)
       → NextIs TooLong unread left line → IfOk text (λ t. t.items ≡ as_line (reply_bytes (Refused TooLarge))) → IfErr text (λ why. why ≡ Memory) → g.stands new before
-      → Appends old mid (text_or_failure text) → TurnsTo new true unread before old left mid
-  turns-too_long None left line before text new old mid given is cause stands written = (before, stands, tt)
-  turns-too_long (Some bytes) None line before text new old mid given is cause stands written = absurd given.1
-  turns-too_long (Some bytes) (Some rest) line before text new old mid given is cause stands written =
+      → IsGathered old mid last (waiting ++ text_or_failure text) → TurnsTo new unread before old waiting left mid last
+  turns-too_long None left line before text new old mid waiting last given is cause stands written = (before, stands, tt)
+  turns-too_long (Some bytes) None line before text new old mid waiting last given is cause stands written = absurd given.1
+  turns-too_long (Some bytes) (Some rest) line before text new old mid waiting last given is cause stands written =
       let first = too_long bytes before text new given.1.2 is cause stands in
-      (_, first.stands, (given.1.1, first_answered bytes before text new (Appends old mid) given.1.0 first written))
+      (_, first.stands, (given.1.1, first_answered bytes before text new (λ t. IsGathered old mid last (waiting ++ t)) given.1.0 first written))
 
-  -- the answer to a line that is too long was written in part
-  pub stops-too_long : (unread left remaining : Option (List ℕ)) (line : List ℕ) (before : OfficeLists) (text : Result (Vec ℕ Global) Failure) (new : O) (old mid : Option (List ℕ))
+  -- of what waited and the answer to a line that is too long a part was written
+  pub stops-too_long : (unread left remaining : Option (List ℕ)) (line : List ℕ) (before : OfficeLists) (text : Result (Vec ℕ Global) Failure) (new : O) (old mid : Option (List ℕ)) (waiting last : List ℕ)
       → NextIs TooLong unread left line → IfOk text (λ t. t.items ≡ as_line (reply_bytes (Refused TooLarge))) → IfErr text (λ why. why ≡ Memory) → g.stands new before
-      → AppendsPrefix old mid (text_or_failure text) → StopsAt new remaining unread before old left mid
-  stops-too_long None left remaining line before text new old mid given is cause stands written = (before, stands, tt)
-  stops-too_long (Some bytes) None remaining line before text new old mid given is cause stands written = absurd given.1
-  stops-too_long (Some bytes) (Some rest) remaining line before text new old mid given is cause stands written =
+      → AppendsPrefix old mid (waiting ++ text_or_failure text) → StopsAt new remaining unread before old waiting left mid last
+  stops-too_long None left remaining line before text new old mid waiting last given is cause stands written = (before, stands, inr tt)
+  stops-too_long (Some bytes) None remaining line before text new old mid waiting last given is cause stands written = absurd given.1
+  stops-too_long (Some bytes) (Some rest) remaining line before text new old mid waiting last given is cause stands written =
       let first = too_long bytes before text new given.1.2 is cause stands in
-      (_, first.stands, first_answered bytes before text new (AppendsPrefix old mid) given.1.0 first written)
+      (_, first.stands, inr (first_answered bytes before text new (λ t. AppendsPrefix old mid (waiting ++ t)) given.1.0 first written))
 
 -- ---- the end of the input
 
@@ -146,3 +177,10 @@ none-left (x ∷ xs) e = absurd (omega (arith, e))
 pub at_end-rest : (pending : List ℕ) (left : Option (List ℕ)) → IsAtEnd (unread pending left) → IsAtEnd left
 at_end-rest pending None e = tt
 at_end-rest pending (Some xs) e = none-left xs (omega (arith, ap length e, length-append pending xs))
+
+-- ---- before the next line is taken
+
+-- nothing was taken
+pub whole-same : (taken same : ℕ) (remaining : Option (List ℕ)) → same ≡ taken → SameWhole taken remaining same remaining
+whole-same taken same None e = tt
+whole-same taken same (Some bytes) e = omega (arith, e)

@@ -1,3 +1,4 @@
+pub mod Gathered
 pub mod PartsView
 pub mod ReplayLines
 pub mod ReplayRuns

@@ -95,7 +95,7 @@ module _ (may_fail : Failure → Type 0) (office : OfficeLists) (IsLeft : Office
     pub answered : AreAnsweredOn (take count (lines_of input)) (AppendsPrefix old new)
 
   -- what was written where a device ended the replay: whole answers alone where it was the reader;
-  -- the last may be cut where it was the writer
+  -- where it was the writer, the last answers may be missing, and one may be cut
   abbrev pub IsReplayedUntilOn : ReplayFault → List ℕ → ℕ → Option (List ℕ) → Option (List ℕ)
       → Type 0
   IsReplayedUntilOn Read input given old new = IsAnsweredSoFarOn input given old new

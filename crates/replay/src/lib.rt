@@ -1,6 +1,7 @@
 //! Replays: scripts of requests, over readers and writers whose bytes contracts can name.
 #![tactic(auto)]
 
+mod gathered;
 pub mod laws;
 mod line;
 mod script;

@@ -1,5 +1,5 @@
 //! A replay: a script of requests, answered line by line on an office.
-ghost use Rattle.std.specs.Prelude.{◌≡◌, ◌≤◌, ◌<◌, ◌+◌, ◌-◌, true, false, Ok, length, IfOk, IfErr, OnOk, OnErr, IfSome, Option, Result};
+ghost use Rattle.std.specs.Prelude.{◌≡◌, ◌≤◌, ◌<◌, ◌+◌, ◌-◌, ◌++◌, true, false, Ok, length, IfOk, IfErr, OnOk, OnErr, IfSome, Option, Result};
 ghost use Rattle.std.specs.Io.KnownBytes.{Appends, IsAtEnd};
 ghost use Rattle.any_office.specs.OfficeRuns.{LeavesOffice};
 ghost use Rattle.byte_io.specs.Written.{AppendsPrefix};
@@ -12,13 +12,15 @@ ghost use Rattle.desk_words.specs.declared.reply.Failure.{Failure};
 ghost use Rattle.desk_words.specs.declared.reply.Failure.TheVariants.{Memory};
 ghost use Rattle.desk_words.specs.declared.reply.Reply.TheVariants.{Refused};
 ghost use Rattle.desk_words.specs.declared.request.Call.{Call};
+ghost use Rattle.replay.specs.Gathered.{IsGathered};
 ghost use Rattle.replay.specs.ReplayRuns.{as_line};
 ghost use Rattle.replay.specs.Transcript.{text_or_failure, AreAnswered, AreAnsweredOn, IsReplayedUntil, IsReplayedUntilOn, OfOpenOffice};
 ghost use Rattle.replay.specs.ReplaySteps.{replay_state, AnswersLine, Turns, Stops, HasEndedFor};
 
+use crate::gathered::Gathered;
 use crate::line::{Scratch, call_of};
 use any_office::Office;
-use byte_io::{DeviceError, Sink, Source, write_all};
+use byte_io::{DeviceError, Sink, Source};
 use desk_words::{Failure, Refusal, Reply};
 use json_replies::reply_text_in;
 use json_requests::Ask;
@@ -140,42 +142,48 @@ fn answer<O: Office>(rooms: &mut Rooms, office: &mut O, line: &[u8]) -> Result<V
     }
 }
 
-/// Writes the line that answers, or, where there is none, the line that tells why.
-fn write_answer<W: Sink>(writer: &mut W, text: &Result<Vec<u8>, Failure>) -> Result<(), DeviceError>
-    ensures written { OnOk result
-        (Appends (W.contents writer.old) (W.contents writer.new) (text_or_failure text.now)) }
-    ensures partly { OnErr result
-        (AppendsPrefix (W.contents writer.old) (W.contents writer.new) (text_or_failure text.now)) }
+/// Puts the line that answers behind what waits, or, where there is none, the line that tells why.
+fn put_answer<W: Sink>(
+    gathered: &mut Gathered,
+    writer: &mut W,
+    text: &Result<Vec<u8>, Failure>,
+) -> Result<(), DeviceError>
+    ensures waits { OnOk result (IsGathered (W.contents writer.old) (W.contents writer.new)
+        gathered.new (gathered.old ++ text_or_failure text.now)) }
+    ensures partly { OnErr result (AppendsPrefix (W.contents writer.old) (W.contents writer.new)
+        (gathered.old ++ text_or_failure text.now)) }
     ensures works { OnOk result (W.failures writer.new ≡ W.failures writer.old) }
     ensures failed { OnErr result (W.failures writer.new ≡ one_more (W.failures writer.old)) }
 {
     match text {
-        Ok(text) => write_all(writer, text),
-        Err(failure) => write_all(writer, failure_line(*failure)),
+        Ok(text) => gathered.put(writer, text),
+        Err(failure) => gathered.put(writer, failure_line(*failure)),
     }
 }
 
-/// Reads one line and writes its answer. `false` says that there was no line.
+/// Takes one line and answers it. What waits is written before the reader is asked for more.
+/// `false` says that there was no line.
 fn turn<O: Office, R: Source, W: Sink>(
     rooms: &mut Rooms,
     office: &mut O,
     lines: &mut LineReader,
     reader: &mut R,
+    gathered: &mut Gathered,
     writer: &mut W,
 ) -> Result<bool, ReplayFault>
     ensures turns { IfOk result (λ more. OfOpenOffice O.Office office.old office.new
         (λ it. (after : OfficeLists) × O.stands office.new after × Turns O.may_fail more
         (replay_state (unread lines.old.pending (R.remaining reader.old)) it
-        (W.contents writer.old))
+        (W.contents writer.old) gathered.old)
         (replay_state (unread lines.new.pending (R.remaining reader.new)) after
-        (W.contents writer.new)))) }
+        (W.contents writer.new) gathered.new))) }
     ensures stops { IfErr result (λ fault. OfOpenOffice O.Office office.old office.new
         (λ it. (after : OfficeLists) × O.stands office.new after
         × Stops O.may_fail fault (R.remaining reader.new)
         (replay_state (unread lines.old.pending (R.remaining reader.old)) it
-        (W.contents writer.old))
+        (W.contents writer.old) gathered.old)
         (replay_state (unread lines.new.pending (R.remaining reader.new)) after
-        (W.contents writer.new)))) }
+        (W.contents writer.new) gathered.new))) }
     ensures leaves { (made : Option Call) × LeavesOffice O.Office made office.old office.new }
     ensures cause { IfErr result (λ fault. HasEndedFor fault lines.new.taken
         (record { of_reader = R.failures reader.old; of_writer = W.failures writer.old })
@@ -194,6 +202,7 @@ fn turn<O: Office, R: Source, W: Sink>(
     ensures end { result ≡ Ok false
         → IsAtEnd (R.remaining reader.new) × (lines.new.taken ≤ longest_input) }
 {
+    gathered.write_before_read(writer, lines)?;
     let text = match lines.next_line(reader)? {
         NextLine::End => return Ok(false),
         NextLine::TooLong => refusal_line(rooms.alloc, Refusal::TooLarge),
@@ -205,14 +214,14 @@ fn turn<O: Office, R: Source, W: Sink>(
             answer(rooms, office, line)
         }
     };
-    write_answer(writer, &text)?;
+    put_answer(gathered, writer, &text)?;
     rooms.give_back(text);
     Ok(true)
 }
 
 /// Answers the lines of the reader, one by one, on an office: for each line that is not empty it
-/// writes one reply and a line feed. Each answer is written before more is read than its line
-/// needed.
+/// writes one reply and a line feed. Answers are gathered, and written before the reader is asked
+/// for more bytes, or where more than 65,536 bytes would wait.
 ///
 /// A line is a moment, a caller, a meeting, a verb and a body, parted at its first four spaces. One
 /// whose reading, step or text was refused memory, or whose call failed, is answered by the
@@ -220,7 +229,8 @@ fn turn<O: Office, R: Source, W: Sink>(
 /// most 16,777,216 bytes; it is never asked for more than one byte above that. The fault is `Read`
 /// only where the reader failed in this call, or gave more bytes than that, and `Write` only where
 /// the writer failed. On `Read` the first lines are answered, each with its line feed, at least all
-/// whose own line feed came; on `Write` the last answer may be cut.
+/// whose own line feed came; on `Write` the answers to the lines that were read since the last write
+/// may be cut or missing.
 ///
 /// What is answered is promised where the office is reliable and open afterwards. It then stores
 /// the office after the run of the calls of these lines.
@@ -251,7 +261,15 @@ pub fn replay_on<O: Office, R: Source, W: Sink>(
 {
     let mut lines = LineReader::new();
     let mut rooms = Rooms::new(alloc);
-    while turn(&mut rooms, office, &mut lines, reader, writer)? {}
+    let mut gathered = Gathered::new(alloc);
+    while turn(
+        &mut rooms,
+        office,
+        &mut lines,
+        reader,
+        &mut gathered,
+        writer,
+    )? {}
     Ok(())
 }
 

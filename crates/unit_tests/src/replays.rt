@@ -51,6 +51,18 @@ fn one_read_fails(rt: HostRuntime) -> Result<(), Fail> {
     Ok(())
 }
 
+// The answers to the lines of one read are written together: no second write is made.
+#[test]
+fn lines_of_one_read_take_one_write(rt: HostRuntime) {
+    let mut sink = FailAt::new(VecSink::new(rt.alloc()), 2);
+    let outcome = replay(
+        rt.alloc(),
+        &mut SliceSource::new(LINES.as_bytes()),
+        &mut sink,
+    );
+    assert!(rt; outcome == Ok(()) && sink.inner.as_slice() == REPLIES.as_bytes());
+}
+
 /// A sink that takes one byte a write.
 #[derive(Drop)]
 struct ByteByByte<W> {
