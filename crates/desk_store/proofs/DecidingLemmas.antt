@@ -12,6 +12,10 @@ use Rattle.desk_words.specs.declared.office.MeetingLists.{MeetingLists}
 use Rattle.desk_words.specs.declared.office.OfficeLists.{OfficeLists}
 use Rattle.desk_words.specs.declared.request.Call.{Call}
 use Rattle.vocabulary.specs.declared.refusal.Refusal.{Refusal}
+use Rattle.desk_words.specs.ViewTypes.{Party}
+use Rattle.desk_words.specs.declared.request.PartyRequest.TheVariants.{Notice}
+use Rattle.party_views.specs.PartyRows.{no_own_rows, own_rows_in}
+use Rattle.party_views.specs.RowsRead.{own_rows_read}
 use Rattle.office_decisions.specs.ListsRead.{polls_alone}
 use Rattle.meeting_core.specs.Step.{decided}
 use Rattle.sql_assemble.specs.declared.fault.LoadError.{LoadError}
@@ -51,3 +55,8 @@ meeting_found None found lists is read = absurd (cc)
 meeting_found (Some m) found lists is read =
     let same : ◌≡◌ {A = Option MeetingLists} (Some lists) (Some (polls_alone m)) = sym is ∙ read in
     (m, refl, cc)
+
+-- a notice reads none of a party's rows
+pub notice_rows : (found : Option MeetingLists) (party : Party) → no_own_rows party ≡ own_rows_read Notice (own_rows_in found party)
+notice_rows None party = refl
+notice_rows (Some m) party = refl

@@ -2,6 +2,7 @@
 ghost use Rattle.std.specs.Prelude.{◌≡◌};
 ghost use Rattle.desk_words.specs.Rulings as ruling;
 ghost use Rattle.desk_words.specs.declared.request.DeskRequest.TheVariants as whole;
+ghost use Rattle.desk_words.specs.declared.request.PartyRequest.TheVariants.{Notice};
 ghost use Rattle.desk_store.specs.TableReads.{IsDecided, IsDecidedAlways, HoldsOfTables};
 ghost use Rattle.meeting_core.specs.Decisions.{office_call, party_call};
 
@@ -14,6 +15,7 @@ use meeting_core::{
     Decides, decide_by, decide_call, decide_closed, decide_from_rows, decide_in_meeting,
     decide_keys, go_on_in_meeting,
 };
+use row_source::no_own_rows;
 use sql_desk_tables::desk;
 use sql_load_meeting::{OfficeReads, read_closed, read_count, read_keys, read_polls, read_rest};
 use sql_load_office::LoadError;
@@ -22,9 +24,29 @@ use sql_load_public::read_public_for;
 use sqlite::{Alter, Transaction};
 use std::alloc::Global;
 
+/// What is decided of a notice, from what the tables hold of the meeting for everyone (section 307).
+/// No rows of the party are read.
+fn decide_notice<S: Alter>(
+    tx: &mut Transaction<'_, S>,
+    alloc: Global,
+    now: Moment,
+    party: Party,
+    meeting: MeetingId,
+) -> Result<Answer<Change>, LoadError>
+    ensures same_reference { tx.new.conn.ghost_name ≡ tx.old.conn.ghost_name }
+    ensures holds { HoldsOfTables S.Store tx.old.conn.now tx.new.conn.now result
+        (IsDecided (party_call party meeting now Notice)) }
+{
+    let notice = PartyRequest::Notice;
+    let public = read_public_for(tx, alloc, meeting, &notice)?;
+    let rows = no_own_rows(alloc, party);
+    let answer = decide_from_rows(alloc, meeting, &public.record(), rows, now, &notice)?;
+    Ok(answer)
+}
+
 /// What is decided of what a party asks in a meeting, from what the tables hold of the meeting for
 /// everyone and of the party in it.
-fn decide_for_party<S: Alter>(
+fn decide_by_rows<S: Alter>(
     tx: &mut Transaction<'_, S>,
     alloc: Global,
     now: Moment,
@@ -40,6 +62,25 @@ fn decide_for_party<S: Alter>(
     let rows = read_own_rows_for(tx, alloc, meeting, party, asked)?;
     let answer = decide_from_rows(alloc, meeting, &public.record(), rows, now, asked)?;
     Ok(answer)
+}
+
+/// What is decided of what a party asks in a meeting.
+fn decide_for_party<S: Alter>(
+    tx: &mut Transaction<'_, S>,
+    alloc: Global,
+    now: Moment,
+    party: Party,
+    meeting: MeetingId,
+    asked: &PartyRequest,
+) -> Result<Answer<Change>, LoadError>
+    ensures same_reference { tx.new.conn.ghost_name ≡ tx.old.conn.ghost_name }
+    ensures holds { HoldsOfTables S.Store tx.old.conn.now tx.new.conn.now result
+        (IsDecided (party_call party meeting now asked.now)) }
+{
+    match asked {
+        PartyRequest::Notice => decide_notice(tx, alloc, now, party, meeting),
+        _ => decide_by_rows(tx, alloc, now, party, meeting, asked),
+    }
 }
 
 /// What is decided of what the office asks in a meeting: from the meeting and its polls, where they

@@ -4,7 +4,7 @@ use Rattle.sql_load_public.proofs.StoredOfficeLemmas.{holds_after, holds_both, h
 use Rattle.desk_store.specs.TableReads.{IsDecided}
 use Rattle.desk_store.proofs.DeskReadLemmas.{returned_office}
 use Rattle.desk_store.proofs.StepLemmas.{failed_returned}
-use Rattle.desk_store.proofs.deciding.decide_for_party.Goals as goal
+use Rattle.desk_store.proofs.deciding.decide_by_rows.Goals as goal
 
 pub returns-in_err-public-clause-holds : goal.returns-in_err-public-clause-holds
 returns-in_err-public-clause-holds g c =
