@@ -2,7 +2,6 @@
 use Rattle.std.proofs.Common.{◌≡◌, ℕ, ◌+◌, List, [], ◌++◌, length, take, refl, ap, subst, sym, ◌∙◌, arith, append_assoc, append-nil, length-append}
 use Rattle.std.specs.Prelude.{Option, Some, None}
 use Rattle.std.proofs.Math.Seq.{take-append-add}
-use Rattle.std.proofs.lemmas.List.{take-append-le}
 use Rattle.std.specs.Io.KnownBytes.{Appends}
 use Rattle.byte_io.proofs.BytesChained.{Appends-chained}
 use Rattle.byte_io.specs.Written.{AppendsPrefix}
@@ -15,10 +14,6 @@ appends_none (Some xs) = sym (append-nil xs)
 -- nothing was written
 pub none_written : (a : Option (List ℕ)) (text : List ℕ) → IsGathered a a text text
 none_written a text = ([], refl, appends_none a)
-
--- what waited was written, and a text waits
-pub others_written : (a b : Option (List ℕ)) (others text waiting : List ℕ) → Appends a b others → waiting ≡ text → IsGathered a b waiting (others ++ text)
-others_written a b others text waiting p e = (others, ap (λ w. others ++ w) (sym e), p)
 
 -- all was written
 pub all_written : (a b : Option (List ℕ)) (text waiting : List ℕ) → Appends a b text → waiting ≡ [] → IsGathered a b waiting text
@@ -49,13 +44,6 @@ part-behind a b c xs ys p q =
     let n = q.0 in
     let cut : take (length xs + n) (xs ++ ys) ≡ xs ++ take n ys = take-append-add xs ys n in
     (length xs + n, simp length-append (omega (arith, q.1)), subst (Appends a c) (sym cut) (Appends-chained a b c xs (take n ys) p q.2))
-
--- a part of a text is a part of a longer one
-pub part-longer : (a b : Option (List ℕ)) (xs ys : List ℕ) → AppendsPrefix a b xs → AppendsPrefix a b (xs ++ ys)
-part-longer a b xs ys p =
-    let n = p.0 in
-    let cut : take n (xs ++ ys) ≡ take n xs = take-append-le n xs ys (omega (arith, p.1)) in
-    (n, simp length-append (omega (arith, p.1)), subst (Appends a b) (sym cut) p.2)
 
 -- a part of what waited was written
 pub gathered-part : (a b c : Option (List ℕ)) (text waiting : List ℕ) → IsGathered a b waiting text → AppendsPrefix b c waiting → AppendsPrefix a c text
