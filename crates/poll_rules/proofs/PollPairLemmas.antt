@@ -1,10 +1,12 @@
 -- Two persons who qualify.
-use Rattle.std.proofs.Common.{◌≡◌, ℕ, Bool, true, false, List, [], ◌∷◌, map, length, refl, sym, ap, ◌∙◌, arith, true≢false}
+use Rattle.std.proofs.Common.{◌≡◌, ℕ, Bool, true, false, List, [], ◌∷◌, ◌++◌, map, length, take, drop, take-append-drop, refl, sym, ap, ◌∙◌, arith, true≢false}
 use Rattle.std.specs.Prelude.{Option, Some, None, ◌&&◌, ◌||◌, not, find}
 use Rattle.std.specs.List.{list_any}
 use Rattle.std.specs.Option.{option_map_or}
 use Rattle.seq.proofs.Filtered.{found-any, found-passes, none-found, none-narrower}
-use Rattle.std.proofs.lemmas.Bool.{not-false, or_right}
+use Rattle.std.proofs.lemmas.Bool.{not-false, or_left, or_right}
+use Rattle.std.proofs.lemmas.List.{map-append}
+use Rattle.std.proofs.lemmas.List.Folds.{list_any-append}
 use Rattle.std.specs.Cmp.{first_so, second_so}
 use Rattle.vocabulary.specs.Names.{same_name}
 use Rattle.vocabulary.specs.declared.kinds.Capacity.{Capacity}
@@ -158,3 +160,34 @@ quorum-agree (row ∷ second ∷ rows) roles others present same =
     (λ person. list_any (λ other. not (same_name person other) && are_two (others person) (others other)) present) present
     (λ person h. any-agree (λ other. not (same_name person other) && are_two (roles person) (roles other)) (λ other. not (same_name person other) && are_two (others person) (others other)) present
     (λ other k. λ i. not (same_name person other) && are_two (same person h i) (same other k i)))
+
+-- ---- a quorum of some of those who are present
+
+-- what some pass, some pass who are asked more widely
+any-wider : (p q : List ℕ → Bool) (persons : List (List ℕ)) → ((person : List ℕ) → p person ≡ true → q person ≡ true) → list_any p persons ≡ true → list_any q persons ≡ true
+any-wider p q [] wider h = h
+any-wider p q (x ∷ xs) wider h =
+    (elim (p x) as (λ b. p x ≡ b → (b || list_any p xs) ≡ true → (q x || list_any q xs) ≡ true) [
+      | true ↦ λ here _. or_left (q x) (list_any q xs) (wider x here)
+      | false ↦ λ _ rest. or_right (q x) (list_any q xs) (any-wider p q xs wider rest)
+    ]) refl h
+
+any-beside : (p : List ℕ → Bool) (some others : List (List ℕ)) → list_any p some ≡ true → list_any p (some ++ others) ≡ true
+any-beside p some others h = list_any-append p some others ∙ or_left (list_any p some) (list_any p others) h
+
+-- who make a quorum make one beside others
+quorum-beside : (rows : List RegisterRow) (roles : List ℕ → List Role) (some others : List (List ℕ)) → is_quorum rows roles some ≡ true → is_quorum rows roles (some ++ others) ≡ true
+quorum-beside [] roles some others h = h
+quorum-beside (row ∷ []) roles some others h = any-beside (λ person. qualifies (roles person)) some others h
+quorum-beside (row ∷ second ∷ rows) roles some others h =
+    any-beside (λ person. list_any (pair roles person) (some ++ others)) some others
+    (any-wider (λ person. list_any (pair roles person) some) (λ person. list_any (pair roles person) (some ++ others)) some (λ person. any-beside (pair roles person) some others) h)
+
+-- so the first of those who are present, if they make one, make it for all
+pub quorum-of_first : (rows : List RegisterRow) (roles : List ℕ → List Role) (n : ℕ) (present : List PresenceMark) → is_quorum rows roles (map (λ (mark : PresenceMark). mark.party) (take n present)) ≡ true
+    → is_quorum rows roles (map (λ (mark : PresenceMark). mark.party) present) ≡ true
+quorum-of_first rows roles n present h =
+    let party = λ (mark : PresenceMark). mark.party in
+    ap (λ (marks : List PresenceMark). is_quorum rows roles (map party marks)) (sym (take-append-drop n present))
+    ∙ ap (is_quorum rows roles) (map-append party (take n present) (drop n present))
+    ∙ quorum-beside rows roles (map party (take n present)) (map party (drop n present)) h

@@ -30,7 +30,7 @@ pub struct Demand {
     pub reached: bool,
 }
 
-/// That of nobody.
+/// The demand of nobody.
 const NO_DEMAND: Demand = Demand {
     members: 0,
     shares: 0,

@@ -1,5 +1,6 @@
 //! The quorum of a session of a meeting.
-ghost use Rattle.std.specs.Prelude.{◌≡◌, [], true, IfOk, filter, length, map};
+ghost use Rattle.std.specs.Prelude.{◌≡◌, [], true, IfOk, filter, length, map, take};
+ghost use Rattle.poll_rules.specs.Roles.{roles_of};
 ghost use Rattle.std.specs.List.{list_any};
 ghost use Rattle.seq.specs.Ordered.{differ_by};
 ghost use Rattle.desk_words.specs.Office.{are_numbered_after, same_presence, are_rows};
@@ -15,6 +16,9 @@ use desk_words::{HolderKind, Party, PresenceMark, RegisterRow};
 use proxy_rules::{Cutoffs, Papers};
 use std::alloc::{AllocError, Global};
 use std::collections::BTreeMap;
+
+/// How many of those who are present are asked first.
+const FIRST: usize = 8;
 
 /// Whether the row is counted. A treasury row is not (section 726).
 fn is_counted(row: &RegisterRow) -> bool
@@ -151,6 +155,35 @@ fn make_quorum(
     }
 }
 
+/// The first of those who are present.
+fn first_of(present: &[PresenceMark]) -> &[PresenceMark]
+    ensures { result.now ≡ take FIRST present.now }
+{
+    &present[..present.len().min(FIRST)]
+}
+
+/// Whether these, of those who are present, make a quorum.
+fn quorum_among(
+    alloc: Global,
+    cutoffs: &Cutoffs,
+    papers: &Papers,
+    present: &[PresenceMark],
+) -> Result<bool, AllocError>
+    requires rows { are_rows papers.now.register.now ≡ true }
+    requires tags { are_tags papers.now.appointments.now ≡ true }
+    requires numbered { are_numbered_after [] papers.now.appointments.now ≡ true }
+    ensures { IfOk result
+        (λ make_one. make_one
+        ≡ is_quorum (filter is_counted papers.now.register.now)
+        (roles_of cutoffs.now papers.now.register.now papers.now.appointments.now
+        papers.now.endings.now papers.now.authorities.now)
+        (map (λ (mark : PresenceMark). mark.party) present.now)) }
+{
+    let persons = parties_of(alloc, present)?;
+    let roles = roles_by_person(alloc, cutoffs, papers, persons.as_slice())?;
+    Ok(make_quorum(papers.register, present, &roles))
+}
+
 /// Whether those who are present in the session of that number make a quorum (section 318).
 ///
 /// A person who is present then qualifies as an individual member, as a representative of a corporation
@@ -158,7 +191,10 @@ fn make_quorum(
 /// cutoffs (section 324). Where one row alone is no treasury row, one such person makes the quorum;
 /// where there are more, two different ones do, but not two who both act for one corporation alone
 /// or both for one member as proxies alone. With no such row there is no quorum. The error is want
-/// of memory. It looks up what those members gave for whom someone who is present may act.
+/// of memory.
+///
+/// The first few who are present are asked before the others, since they mostly make a quorum, which
+/// nobody more unmakes. It looks up what those members gave for whom someone who is asked may act.
 pub fn quorum(
     alloc: Global,
     cutoffs: &Cutoffs,
@@ -175,7 +211,10 @@ pub fn quorum(
         papers.now.endings.now papers.now.authorities.now papers.now.presences.now session) }
 {
     let present = present_in(alloc, papers.presences.as_slice(), session)?;
-    let persons = parties_of(alloc, present.as_slice())?;
-    let roles = roles_by_person(alloc, cutoffs, papers, persons.as_slice())?;
-    Ok(make_quorum(papers.register, present.as_slice(), &roles))
+    let first = first_of(present.as_slice());
+    let make_one = quorum_among(alloc, cutoffs, papers, first)?;
+    if make_one {
+        return Ok(true);
+    }
+    quorum_among(alloc, cutoffs, papers, present.as_slice())
 }
