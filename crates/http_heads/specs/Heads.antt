@@ -86,7 +86,8 @@ Finds Unreadable input left held = IsFront Unreadable input
 
 -- whatever follows the bytes, and whatever is held, this stands at the front: it is no whole head
 abbrev pub FindsNoHead : List ℕ → Front → Type 0
-FindsNoHead bytes front = (left : List ℕ) (held : HeadBuffer) → Finds front (bytes ++ left) left held
+FindsNoHead bytes front =
+    (left : List ℕ) (held : HeadBuffer) → Finds front (bytes ++ left) left held
 
 -- the same where the bytes that were to come are known, behind those that were read before
 abbrev pub FindsKnown : Front → List ℕ → Option (List ℕ) → Option (List ℕ) → HeadBuffer → Type 0
