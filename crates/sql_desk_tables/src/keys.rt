@@ -5,13 +5,16 @@ ghost use Rattle.sql_schema.specs.Contents.{keys};
 ghost use Rattle.sql_schema.specs.Statements.{Adds, ChangesNothing, CommitsNothing, Does, FindsRecords, IsRead};
 ghost use Rattle.sql_schema.specs.Tables.{keys_table, up_to_desk};
 ghost use Rattle.sql_schema.specs.SqlTexts.{making_text};
-ghost use Rattle.sql_desk_tables.specs.DeskTables.{first_columns, keys_added, keys_emptied, keys_listed, keys_made};
+ghost use Rattle.sql_desk_tables.specs.DeskTables.{first_columns, keys_emptied};
+ghost use Rattle.sqlite.specs.Listing.{understood};
+ghost use Rattle.sqlite_schema.specs.Names.{same_name as same_column};
+ghost use Rattle.sqlite_tied.specs.Compute.{everything};
+ghost use Rattle.sql_lemmas.proofs.Frames.{wide_one};
+ghost use Rattle.sql_stored.specs.Stored.{HasTexts};
 
 use desk_words::{KeyRow, SecretKey};
 use sql_rows::{caller_text, key_text};
-use sql_stored::{
-    EmptiedTable, FilledTable, ListedTable, MadeTable, ReadTable, add_row, adding, listing,
-};
+use sql_stored::{EmptiedTable, ReadTable, StoredTable, TableTexts, add_row, table_texts};
 use sqlite::{Alter, Error, Row, Transaction, params};
 
 /// The name and the columns of the table, for a text of this form.
@@ -24,42 +27,36 @@ macro_rules! keys_text {
 /// The keys of the callers.
 pub struct Keys;
 
-impl ListedTable for Keys {
+impl StoredTable for Keys {
     type Record = KeyRow;
 
-    ghost declared = { keys_table };
+    ghost stands = { record {
+      declared = keys_table;
+      table = keys;
+      before = up_to_desk;
+      making = making_text first_columns [] keys_table;
+    } };
 
-    ghost table = { keys };
-
-    fn listing() -> &'static str {
-        keys_text!(listing)
+    fn texts() -> TableTexts {
+        keys_text!(
+            table_texts,
+            "?1, ?2",
+            "CREATE TABLE keys (party TEXT NOT NULL PRIMARY KEY, secret TEXT NOT NULL UNIQUE) STRICT"
+        )
     }
 
-    ghost lists = { keys_listed };
+    ghost stored = { unfold understood everything same_column in record {
+      makes = record { is = refl; alone = refl; plain = (refl, refl); defined = refl; full = refl };
+      texts = wide_one (HasTexts keys keys_table) (λ others apart indexes views. record {
+        lists = record { is = refl; plain = (refl, refl); unlisted = refl };
+        adds = record { place = 1; is = refl; plain = (refl, refl); there = refl; numbered = refl };
+      });
+      listed = (refl, refl);
+    } };
 }
 
 impl ReadTable for Keys {
     ghost reads_as = { refl };
-}
-
-impl MadeTable for Keys {
-    ghost before = { up_to_desk };
-
-    ghost making = { making_text first_columns [] keys_table };
-
-    fn making() -> &'static str {
-        "CREATE TABLE keys (party TEXT NOT NULL PRIMARY KEY, secret TEXT NOT NULL UNIQUE) STRICT"
-    }
-
-    ghost makes = { keys_made };
-}
-
-impl FilledTable for Keys {
-    fn adding() -> &'static str {
-        keys_text!(adding, "?1, ?2")
-    }
-
-    ghost adds = { keys_added };
 }
 
 impl EmptiedTable for Keys {

@@ -8,12 +8,15 @@ ghost use Rattle.sql_desk_tables.specs.Together.{AddsAll, AreValuesOf, EachMeans
 ghost use Rattle.sqlite.specs.Values.{bound};
 ghost use Rattle.sqlite.specs.declared.types.Value.TheVariants.{Text};
 ghost use Rattle.sql_schema.specs.SqlTexts.{once_text};
-ghost use Rattle.sql_desk_tables.specs.DeskTables.{register_added, register_listed, register_made};
+ghost use Rattle.sqlite.specs.Listing.{understood};
+ghost use Rattle.sqlite_schema.specs.Names.{same_name as same_column};
+ghost use Rattle.sqlite_tied.specs.Compute.{everything};
+ghost use Rattle.sql_lemmas.proofs.Frames.{wide_one};
+ghost use Rattle.sql_stored.specs.Stored.{HasTexts};
 
 use desk_words::{MeetingId, RegisterRow};
-use sql_lemmas::whole;
-use sql_rows::{InMeeting, holder_kind_text, meeting_text, party_text, text_value};
-use sql_stored::{FilledTable, ListedTable, MadeTable, ReadTable, add_row, adding, listing};
+use sql_rows::{InMeeting, holder_kind_text, meeting_text, party_text, text_value, whole};
+use sql_stored::{ReadTable, StoredTable, TableTexts, add_row, table_texts};
 use sqlite::types::{ToSql, ValueRef};
 use sqlite::{Alter, Error, Transaction, params};
 use std::alloc::Global;
@@ -29,42 +32,36 @@ macro_rules! register_text {
 /// The rows of the registers (section 113).
 pub struct Register;
 
-impl ListedTable for Register {
+impl StoredTable for Register {
     type Record = InMeeting<RegisterRow>;
 
-    ghost declared = { register_table };
+    ghost stands = { record {
+      declared = register_table;
+      table = register;
+      before = up_to_resolutions;
+      making = once_text register_table;
+    } };
 
-    ghost table = { register };
-
-    fn listing() -> &'static str {
-        register_text!(listing)
+    fn texts() -> TableTexts {
+        register_text!(
+            table_texts,
+            "?1, ?2, ?3, ?4, ?5, ?6",
+            "CREATE TABLE register (meeting TEXT NOT NULL REFERENCES meetings (meeting), member TEXT NOT NULL, kind TEXT NOT NULL, name TEXT NOT NULL, shares INTEGER NOT NULL, paid INTEGER NOT NULL, PRIMARY KEY (meeting, member)) STRICT"
+        )
     }
 
-    ghost lists = { register_listed };
+    ghost stored = { unfold understood everything same_column in record {
+      makes = record { is = refl; alone = refl; plain = (refl, refl); defined = refl; full = refl };
+      texts = wide_one (HasTexts register register_table) (λ others apart indexes views. record {
+        lists = record { is = refl; plain = (refl, refl); unlisted = refl };
+        adds = record { place = 6; is = refl; plain = (refl, refl); there = refl; numbered = refl };
+      });
+      listed = (refl, refl);
+    } };
 }
 
 impl ReadTable for Register {
     ghost reads_as = { refl };
-}
-
-impl MadeTable for Register {
-    ghost before = { up_to_resolutions };
-
-    ghost making = { once_text register_table };
-
-    fn making() -> &'static str {
-        "CREATE TABLE register (meeting TEXT NOT NULL REFERENCES meetings (meeting), member TEXT NOT NULL, kind TEXT NOT NULL, name TEXT NOT NULL, shares INTEGER NOT NULL, paid INTEGER NOT NULL, PRIMARY KEY (meeting, member)) STRICT"
-    }
-
-    ghost makes = { register_made };
-}
-
-impl FilledTable for Register {
-    fn adding() -> &'static str {
-        register_text!(adding, "?1, ?2, ?3, ?4, ?5, ?6")
-    }
-
-    ghost adds = { register_added };
 }
 
 /// How many rows `add_together` adds.

@@ -4,12 +4,15 @@ ghost use Rattle.sql_schema.specs.Contents.{resolutions};
 ghost use Rattle.sql_schema.specs.Statements.{Adds, CommitsNothing, Does};
 ghost use Rattle.sql_schema.specs.Tables.{resolutions_table, up_to_meetings};
 ghost use Rattle.sql_schema.specs.SqlTexts.{once_text};
-ghost use Rattle.sql_desk_tables.specs.DeskTables.{resolutions_added, resolutions_listed, resolutions_made};
+ghost use Rattle.sqlite.specs.Listing.{understood};
+ghost use Rattle.sqlite_schema.specs.Names.{same_name};
+ghost use Rattle.sqlite_tied.specs.Compute.{everything};
+ghost use Rattle.sql_lemmas.proofs.Frames.{wide_one};
+ghost use Rattle.sql_stored.specs.Stored.{HasTexts};
 
 use desk_words::{MeetingId, Resolution};
-use sql_lemmas::whole;
-use sql_rows::{InMeeting, Numbered, meeting_text, resolution_kind_text, text_value};
-use sql_stored::{FilledTable, ListedTable, MadeTable, ReadTable, add_row, adding, listing};
+use sql_rows::{InMeeting, Numbered, meeting_text, resolution_kind_text, text_value, whole};
+use sql_stored::{ReadTable, StoredTable, TableTexts, add_row, table_texts};
 use sqlite::{Alter, Error, Transaction, params};
 
 /// The name and the columns of the table, for a text of this form.
@@ -23,42 +26,36 @@ macro_rules! resolutions_text {
 /// The resolutions of which notice was given (section 283(6)).
 pub struct Resolutions;
 
-impl ListedTable for Resolutions {
+impl StoredTable for Resolutions {
     type Record = InMeeting<Numbered<Resolution>>;
 
-    ghost declared = { resolutions_table };
+    ghost stands = { record {
+      declared = resolutions_table;
+      table = resolutions;
+      before = up_to_meetings;
+      making = once_text resolutions_table;
+    } };
 
-    ghost table = { resolutions };
-
-    fn listing() -> &'static str {
-        resolutions_text!(listing)
+    fn texts() -> TableTexts {
+        resolutions_text!(
+            table_texts,
+            "?1, ?2, ?3, ?4",
+            "CREATE TABLE resolutions (meeting TEXT NOT NULL REFERENCES meetings (meeting), number INTEGER NOT NULL, kind TEXT NOT NULL, body TEXT NOT NULL, PRIMARY KEY (meeting, number)) STRICT"
+        )
     }
 
-    ghost lists = { resolutions_listed };
+    ghost stored = { unfold understood everything same_name in record {
+      makes = record { is = refl; alone = refl; plain = (refl, refl); defined = refl; full = refl };
+      texts = wide_one (HasTexts resolutions resolutions_table) (λ others apart indexes views. record {
+        lists = record { is = refl; plain = (refl, refl); unlisted = refl };
+        adds = record { place = 5; is = refl; plain = (refl, refl); there = refl; numbered = refl };
+      });
+      listed = (refl, refl);
+    } };
 }
 
 impl ReadTable for Resolutions {
     ghost reads_as = { refl };
-}
-
-impl MadeTable for Resolutions {
-    ghost before = { up_to_meetings };
-
-    ghost making = { once_text resolutions_table };
-
-    fn making() -> &'static str {
-        "CREATE TABLE resolutions (meeting TEXT NOT NULL REFERENCES meetings (meeting), number INTEGER NOT NULL, kind TEXT NOT NULL, body TEXT NOT NULL, PRIMARY KEY (meeting, number)) STRICT"
-    }
-
-    ghost makes = { resolutions_made };
-}
-
-impl FilledTable for Resolutions {
-    fn adding() -> &'static str {
-        resolutions_text!(adding, "?1, ?2, ?3, ?4")
-    }
-
-    ghost adds = { resolutions_added };
 }
 
 /// Adds a resolution of a meeting, with its number.

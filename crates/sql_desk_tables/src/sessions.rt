@@ -4,12 +4,15 @@ ghost use Rattle.sql_schema.specs.Contents.{session_opened_at, sessions};
 ghost use Rattle.sql_schema.specs.Statements.{Adds, CommitsNothing, Does, Sets};
 ghost use Rattle.sql_schema.specs.Tables.{schema_one, sessions_table};
 ghost use Rattle.sql_schema.specs.SqlTexts.{once_text};
-ghost use Rattle.sql_desk_tables.specs.DeskTables.{sessions_added, sessions_listed, sessions_made};
+ghost use Rattle.sqlite.specs.Listing.{understood};
+ghost use Rattle.sqlite_schema.specs.Names.{same_name};
+ghost use Rattle.sqlite_tied.specs.Compute.{everything};
+ghost use Rattle.sql_lemmas.proofs.Frames.{wide};
+ghost use Rattle.sql_stored.specs.Stored.{HasTexts};
 
 use desk_words::{MeetingId, Moment, Session};
-use sql_lemmas::whole;
-use sql_rows::{InMeeting, Numbered, meeting_text, moment_number, some_moment_number};
-use sql_stored::{FilledTable, ListedTable, MadeTable, ReadTable, add_row, adding, listing};
+use sql_rows::{InMeeting, Numbered, meeting_text, moment_number, some_moment_number, whole};
+use sql_stored::{ReadTable, StoredTable, TableTexts, add_row, table_texts};
 use sqlite::{Alter, Error, Transaction, params};
 
 /// The name and the columns of the table, for a text of this form.
@@ -23,42 +26,36 @@ macro_rules! sessions_text {
 /// The sessions to which meetings were adjourned, numbered from 2.
 pub struct Sessions;
 
-impl ListedTable for Sessions {
+impl StoredTable for Sessions {
     type Record = InMeeting<Numbered<Session>>;
 
-    ghost declared = { sessions_table };
+    ghost stands = { record {
+      declared = sessions_table;
+      table = sessions;
+      before = schema_one;
+      making = once_text sessions_table;
+    } };
 
-    ghost table = { sessions };
-
-    fn listing() -> &'static str {
-        sessions_text!(listing)
+    fn texts() -> TableTexts {
+        sessions_text!(
+            table_texts,
+            "?1, ?2, ?3, ?4",
+            "CREATE TABLE sessions (meeting TEXT NOT NULL REFERENCES meetings (meeting), number INTEGER NOT NULL, appointed INTEGER NOT NULL, opened INTEGER, PRIMARY KEY (meeting, number)) STRICT"
+        )
     }
 
-    ghost lists = { sessions_listed };
+    ghost stored = { unfold understood everything same_name in record {
+      makes = record { is = refl; alone = refl; plain = (refl, refl); defined = refl; full = refl };
+      texts = wide (HasTexts sessions sessions_table) (λ others apart indexes views. record {
+        lists = record { is = refl; plain = (refl, refl); unlisted = refl };
+        adds = record { place = 14; is = refl; plain = (refl, refl); there = refl; numbered = refl };
+      });
+      listed = (refl, refl);
+    } };
 }
 
 impl ReadTable for Sessions {
     ghost reads_as = { refl };
-}
-
-impl MadeTable for Sessions {
-    ghost before = { schema_one };
-
-    ghost making = { once_text sessions_table };
-
-    fn making() -> &'static str {
-        "CREATE TABLE sessions (meeting TEXT NOT NULL REFERENCES meetings (meeting), number INTEGER NOT NULL, appointed INTEGER NOT NULL, opened INTEGER, PRIMARY KEY (meeting, number)) STRICT"
-    }
-
-    ghost makes = { sessions_made };
-}
-
-impl FilledTable for Sessions {
-    fn adding() -> &'static str {
-        sessions_text!(adding, "?1, ?2, ?3, ?4")
-    }
-
-    ghost adds = { sessions_added };
 }
 
 /// Adds a further session of a meeting, with its number.

@@ -26,6 +26,7 @@ use Rattle.sql_rows.specs.Marks.{tally_from, declared_of}
 use Rattle.desk_words.specs.declared.records.Tally.{Tally}
 use Rattle.vocabulary.specs.OptionSteps.{◌>>=◌}
 use Rattle.sql_rows.proofs.RowMeaningLemmas.{bound}
+pub use Rattle.sql_rows.specs.StayLemmas.{integer_stays, number_stays, text_stays}
 use Rattle.sql_lemmas.proofs.Values.{cast_int, cast_null}
 
 -- ---- names
@@ -138,20 +139,6 @@ preserved_some_moment (Blob b) x h = absurd cc
 
 -- ---- what is written again stays as it is
 
-pub text_stays : {A : Type 0} (reading : List ℕ → Option A) (v : Value) (x : A) → parsed_of reading v ≡ Some x → cast Texts v ≡ v
-text_stays reading (Text t) x h = refl
-text_stays reading Null x h = absurd cc
-text_stays reading (Int z) x h = absurd cc
-text_stays reading (Real y) x h = absurd cc
-text_stays reading (Blob b) x h = absurd cc
-
-pub integer_stays : {A : Type 0} (reading : ℤ → Option A) (v : Value) (x : A) → (integer_of v >>= reading) ≡ Some x → cast Integer v ≡ v
-integer_stays reading (Int z) x h = cast_int z
-integer_stays reading Null x h = absurd cc
-integer_stays reading (Text t) x h = absurd cc
-integer_stays reading (Real y) x h = absurd cc
-integer_stays reading (Blob b) x h = absurd cc
-
 pub some_moment_stays : (v : Value) (x : Option ℕ) → some_moment_of v ≡ Some x → cast Integer v ≡ v
 some_moment_stays (Int z) x h = cast_int z
 some_moment_stays Null x h = cast_null
@@ -168,13 +155,6 @@ null_is (Blob b) h = absurd (true≢false (sym h))
 
 null_stays : (v : Value) → is_null v ≡ true → cast Integer v ≡ v
 null_stays v h = subst (λ w. cast Integer w ≡ w) (sym (null_is v h)) cast_null
-
-pub number_stays : (v : Value) (n : ℕ) → natural_value v ≡ Some n → cast Integer v ≡ v
-number_stays (Int z) n h = cast_int z
-number_stays Null n h = absurd cc
-number_stays (Text t) n h = absurd cc
-number_stays (Real y) n h = absurd cc
-number_stays (Blob b) n h = absurd cc
 
 -- the four columns of what is declared stay as they are
 pub declared_stays : (a b c d : Value) (x : Option Tally) → declared_of a b c d ≡ Some x → (cast Integer a ≡ a) × (cast Integer b ≡ b) × (cast Integer c ≡ c) × (cast Integer d ≡ d)

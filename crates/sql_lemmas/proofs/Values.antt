@@ -5,18 +5,9 @@ use Rattle.sqlite.specs.declared.types.Value.TheVariants.{Null, Int, Text as Wor
 use Rattle.sqlite.specs.Values.{or_null, bound_value}
 use Rattle.sqlite.specs.Kind.TheVariants.{Integer, Text}
 use Rattle.sqlite.specs.Cast.{cast}
-use Rattle.sqlite.specs.Ops.{unary}
 use Rattle.sql_rows.specs.ColumnValues.{natural_value, flag_of}
 use Rattle.vocabulary.specs.OptionSteps.{◌>>=◌}
-use Rattle.sql_lemmas.proofs.Writing.{either}
-
-pub cast_null : cast Integer Null ≡ Null
-unfolding unary
-cast_null = either _ Null
-
-pub cast_int : (n : ℤ) → cast Integer (Int n) ≡ Int n
-unfolding unary
-cast_int n = either _ (Int n)
+pub use Rattle.sql_rows.specs.StayLemmas.{cast_int, cast_null}
 
 pub cast_some : (n : Option ℤ) → cast Integer (or_null Int n) ≡ or_null Int n
 cast_some None = cast_null

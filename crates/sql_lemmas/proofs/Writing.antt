@@ -31,10 +31,6 @@ went (inr on) = on
 pub same_value : {B E : Type 0} {a b : B} → ◌≡◌ {A = Result B E} (Ok a) (Ok b) → a ≡ b
 same_value e = cc
 
-pub either : (b : Bool) (x : Value) → cond b x x ≡ x
-either true x = refl
-either false x = refl
-
 -- ---- INSERT
 
 abbrev pub rows_of_values : Table → Row → ℕ → List Term → List Row

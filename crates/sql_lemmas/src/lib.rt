@@ -1,8 +1,4 @@
-//! What the statements on any table of the desk have in common: numbers as they are kept, and what
-//! a statement of a form does to the rows of a table.
+//! What a statement of a form does to the rows of a table, and that the numbers of an office are kept.
 #![tactic(auto)]
 
 pub mod laws;
-mod numbers;
-
-pub use numbers::{tally, whole};

@@ -4,12 +4,17 @@ ghost use Rattle.sql_schema.specs.Contents.{appointments};
 ghost use Rattle.sql_schema.specs.Statements.{Adds, CommitsNothing, Does};
 ghost use Rattle.sql_schema.specs.Tables.{appointments_table, up_to_register};
 ghost use Rattle.sql_schema.specs.SqlTexts.{filed_text};
-ghost use Rattle.sql_meeting_tables.specs.HandedInTables.{appointments_added, appointments_listed, appointments_made};
+ghost use Rattle.sqlite.specs.Listing.{understood};
+ghost use Rattle.sqlite_schema.specs.Names.{same_name};
+ghost use Rattle.sqlite_tied.specs.Compute.{everything};
+ghost use Rattle.sql_lemmas.proofs.Frames.{wide_one};
+ghost use Rattle.sql_stored.specs.Stored.{HasTexts};
 
 use desk_words::{Appointment, MeetingId};
-use sql_lemmas::whole;
-use sql_rows::{InMeeting, letters_of, meeting_text, moment_number, party_text, range_numbers};
-use sql_stored::{FilledTable, ListedTable, MadeTable, ReadTable, add_row, adding, listing};
+use sql_rows::{
+    InMeeting, letters_of, meeting_text, moment_number, party_text, range_numbers, whole,
+};
+use sql_stored::{ReadTable, StoredTable, TableTexts, add_row, table_texts};
 use sqlite::{Alter, Error, Transaction, params};
 use std::alloc::Global;
 
@@ -24,42 +29,36 @@ macro_rules! appointments_text {
 /// The appointments of proxies, in order of receipt (section 324).
 pub struct Appointments;
 
-impl ListedTable for Appointments {
+impl StoredTable for Appointments {
     type Record = InMeeting<Appointment>;
 
-    ghost declared = { appointments_table };
+    ghost stands = { record {
+      declared = appointments_table;
+      table = appointments;
+      before = up_to_register;
+      making = filed_text appointments_table;
+    } };
 
-    ghost table = { appointments };
-
-    fn listing() -> &'static str {
-        appointments_text!(listing)
+    fn texts() -> TableTexts {
+        appointments_text!(
+            table_texts,
+            "?1, ?2, ?3, ?4, ?5, ?6, ?7, ?8",
+            "CREATE TABLE appointments (seq INTEGER PRIMARY KEY AUTOINCREMENT, meeting TEXT NOT NULL REFERENCES meetings (meeting), member TEXT NOT NULL, number INTEGER NOT NULL, proxy TEXT NOT NULL, first INTEGER NOT NULL, last INTEGER NOT NULL, instructions TEXT NOT NULL, moment INTEGER NOT NULL, UNIQUE (meeting, member, number)) STRICT"
+        )
     }
 
-    ghost lists = { appointments_listed };
+    ghost stored = { unfold understood everything same_name in record {
+      makes = record { is = refl; alone = refl; plain = (refl, refl); defined = refl; full = refl };
+      texts = wide_one (HasTexts appointments appointments_table) (λ others apart indexes views. record {
+        lists = record { is = refl; plain = (refl, refl); unlisted = refl };
+        adds = record { place = 7; is = refl; plain = (refl, refl); there = refl; numbered = refl };
+      });
+      listed = (refl, refl);
+    } };
 }
 
 impl ReadTable for Appointments {
     ghost reads_as = { refl };
-}
-
-impl MadeTable for Appointments {
-    ghost before = { up_to_register };
-
-    ghost making = { filed_text appointments_table };
-
-    fn making() -> &'static str {
-        "CREATE TABLE appointments (seq INTEGER PRIMARY KEY AUTOINCREMENT, meeting TEXT NOT NULL REFERENCES meetings (meeting), member TEXT NOT NULL, number INTEGER NOT NULL, proxy TEXT NOT NULL, first INTEGER NOT NULL, last INTEGER NOT NULL, instructions TEXT NOT NULL, moment INTEGER NOT NULL, UNIQUE (meeting, member, number)) STRICT"
-    }
-
-    ghost makes = { appointments_made };
-}
-
-impl FilledTable for Appointments {
-    fn adding() -> &'static str {
-        appointments_text!(adding, "?1, ?2, ?3, ?4, ?5, ?6, ?7, ?8")
-    }
-
-    ghost adds = { appointments_added };
 }
 
 /// Adds an appointment in a meeting.

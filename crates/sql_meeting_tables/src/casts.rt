@@ -4,12 +4,15 @@ ghost use Rattle.sql_schema.specs.Contents.{casts};
 ghost use Rattle.sql_schema.specs.Statements.{Adds, CommitsNothing, Does};
 ghost use Rattle.sql_schema.specs.Tables.{casts_table, up_to_polls_before_sessions};
 ghost use Rattle.sql_schema.specs.SqlTexts.{filed_text};
-ghost use Rattle.sql_meeting_tables.specs.HandedInTables.{casts_added, casts_listed, casts_made};
+ghost use Rattle.sqlite.specs.Listing.{understood};
+ghost use Rattle.sqlite_schema.specs.Names.{same_name};
+ghost use Rattle.sqlite_tied.specs.Compute.{everything};
+ghost use Rattle.sql_lemmas.proofs.Frames.{wide_one};
+ghost use Rattle.sql_stored.specs.Stored.{HasTexts};
 
 use desk_words::{CastMark, MeetingId};
-use sql_lemmas::whole;
-use sql_rows::{InMeeting, cast_columns, meeting_text, moment_number, party_text};
-use sql_stored::{FilledTable, ListedTable, MadeTable, ReadTable, add_row, adding, listing};
+use sql_rows::{InMeeting, cast_columns, meeting_text, moment_number, party_text, whole};
+use sql_stored::{ReadTable, StoredTable, TableTexts, add_row, table_texts};
 use sqlite::{Alter, Error, Transaction, params};
 
 /// The name and the columns of the table, for a text of this form.
@@ -23,42 +26,36 @@ macro_rules! casts_text {
 /// The votes, in order of receipt (sections 284 and 322).
 pub struct Casts;
 
-impl ListedTable for Casts {
+impl StoredTable for Casts {
     type Record = InMeeting<CastMark>;
 
-    ghost declared = { casts_table };
+    ghost stands = { record {
+      declared = casts_table;
+      table = casts;
+      before = up_to_polls_before_sessions;
+      making = filed_text casts_table;
+    } };
 
-    ghost table = { casts };
-
-    fn listing() -> &'static str {
-        casts_text!(listing)
+    fn texts() -> TableTexts {
+        casts_text!(
+            table_texts,
+            "?1, ?2, ?3, ?4, ?5, ?6, ?7, ?8, ?9",
+            "CREATE TABLE casts (seq INTEGER PRIMARY KEY AUTOINCREMENT, meeting TEXT NOT NULL REFERENCES meetings (meeting), resolution INTEGER NOT NULL, voter TEXT NOT NULL, capacity TEXT NOT NULL, member TEXT, first INTEGER, last INTEGER, way TEXT, moment INTEGER NOT NULL) STRICT"
+        )
     }
 
-    ghost lists = { casts_listed };
+    ghost stored = { unfold understood everything same_name in record {
+      makes = record { is = refl; alone = refl; plain = (refl, refl); defined = refl; full = refl };
+      texts = wide_one (HasTexts casts casts_table) (λ others apart indexes views. record {
+        lists = record { is = refl; plain = (refl, refl); unlisted = refl };
+        adds = record { place = 13; is = refl; plain = (refl, refl); there = refl; numbered = refl };
+      });
+      listed = (refl, refl);
+    } };
 }
 
 impl ReadTable for Casts {
     ghost reads_as = { refl };
-}
-
-impl MadeTable for Casts {
-    ghost before = { up_to_polls_before_sessions };
-
-    ghost making = { filed_text casts_table };
-
-    fn making() -> &'static str {
-        "CREATE TABLE casts (seq INTEGER PRIMARY KEY AUTOINCREMENT, meeting TEXT NOT NULL REFERENCES meetings (meeting), resolution INTEGER NOT NULL, voter TEXT NOT NULL, capacity TEXT NOT NULL, member TEXT, first INTEGER, last INTEGER, way TEXT, moment INTEGER NOT NULL) STRICT"
-    }
-
-    ghost makes = { casts_made };
-}
-
-impl FilledTable for Casts {
-    fn adding() -> &'static str {
-        casts_text!(adding, "?1, ?2, ?3, ?4, ?5, ?6, ?7, ?8, ?9")
-    }
-
-    ghost adds = { casts_added };
 }
 
 /// Adds a vote in a meeting.

@@ -6,13 +6,16 @@ ghost use Rattle.sql_meeting_tables.specs.Copying.{CopiesTyped};
 ghost use Rattle.sql_schema.specs.Statements.{Adds, CommitsNothing, Does, Sets};
 ghost use Rattle.sql_schema.specs.Tables.{polls_table, polls_before_sessions_table, up_to_demands};
 ghost use Rattle.sql_schema.specs.SqlTexts.{once_text};
-ghost use Rattle.sql_meeting_tables.specs.SessionTables.{polls_added, polls_listed, polls_made};
+ghost use Rattle.sqlite.specs.Listing.{understood};
+ghost use Rattle.sqlite_schema.specs.Names.{same_name};
+ghost use Rattle.sqlite_tied.specs.Compute.{everything};
+ghost use Rattle.sql_lemmas.proofs.Frames.{wide};
+ghost use Rattle.sql_stored.specs.Stored.{HasTexts};
 
 use desk_words::{MeetingId, Moment, Poll, Tally};
-use sql_lemmas::{tally, whole};
-use sql_rows::{InMeeting, meeting_text, moment_number, some_moment_number};
+use sql_rows::{InMeeting, meeting_text, moment_number, some_moment_number, tally, whole};
 use sql_schema::PollName;
-use sql_stored::{FilledTable, ListedTable, MadeTable, ReadTable, add_row, adding, listing};
+use sql_stored::{ReadTable, StoredTable, TableTexts, add_row, table_texts};
 use sqlite::{Alter, Error, Transaction, params};
 
 /// The name and the columns of the table, for a text of this form.
@@ -26,42 +29,36 @@ macro_rules! polls_text {
 /// The polls (section 321).
 pub struct Polls;
 
-impl ListedTable for Polls {
+impl StoredTable for Polls {
     type Record = InMeeting<Poll>;
 
-    ghost declared = { polls_table };
+    ghost stands = { record {
+      declared = polls_table;
+      table = polls;
+      before = up_to_demands;
+      making = once_text polls_table;
+    } };
 
-    ghost table = { polls };
-
-    fn listing() -> &'static str {
-        polls_text!(listing)
+    fn texts() -> TableTexts {
+        polls_text!(
+            table_texts,
+            "?1, ?2, ?3, ?4, ?5, ?6, ?7, ?8, ?9, ?10, ?11, ?12",
+            "CREATE TABLE polls2 (meeting TEXT NOT NULL REFERENCES meetings (meeting), session INTEGER NOT NULL, resolution INTEGER NOT NULL, ordered INTEGER NOT NULL, take INTEGER NOT NULL, chair INTEGER NOT NULL, started INTEGER, closed INTEGER, votes_for INTEGER, votes_against INTEGER, withheld INTEGER, eligible INTEGER, PRIMARY KEY (meeting, resolution)) STRICT"
+        )
     }
 
-    ghost lists = { polls_listed };
+    ghost stored = { unfold understood everything same_name in record {
+      makes = record { is = refl; alone = refl; plain = (refl, refl); defined = refl; full = refl };
+      texts = wide (HasTexts polls polls_table) (λ others apart indexes views. record {
+        lists = record { is = refl; plain = (refl, refl); unlisted = refl };
+        adds = record { place = 17; is = refl; plain = (refl, refl); there = refl; numbered = refl };
+      });
+      listed = (refl, refl);
+    } };
 }
 
 impl ReadTable for Polls {
     ghost reads_as = { refl };
-}
-
-impl MadeTable for Polls {
-    ghost before = { up_to_demands };
-
-    ghost making = { once_text polls_table };
-
-    fn making() -> &'static str {
-        "CREATE TABLE polls2 (meeting TEXT NOT NULL REFERENCES meetings (meeting), session INTEGER NOT NULL, resolution INTEGER NOT NULL, ordered INTEGER NOT NULL, take INTEGER NOT NULL, chair INTEGER NOT NULL, started INTEGER, closed INTEGER, votes_for INTEGER, votes_against INTEGER, withheld INTEGER, eligible INTEGER, PRIMARY KEY (meeting, resolution)) STRICT"
-    }
-
-    ghost makes = { polls_made };
-}
-
-impl FilledTable for Polls {
-    fn adding() -> &'static str {
-        polls_text!(adding, "?1, ?2, ?3, ?4, ?5, ?6, ?7, ?8, ?9, ?10, ?11, ?12")
-    }
-
-    ghost adds = { polls_added };
 }
 
 /// Adds a poll of a session of a meeting.

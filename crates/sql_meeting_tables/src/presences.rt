@@ -1,18 +1,20 @@
 //! The table `presences2`: the parties that are present, in order of receipt (section 318).
 ghost use Rattle.std.specs.Prelude.{◌≡◌, refl};
+ghost use Rattle.sqlite.specs.Listing.{understood};
+ghost use Rattle.sqlite_schema.specs.Names.{same_name};
+ghost use Rattle.sqlite_tied.specs.Compute.{everything};
+ghost use Rattle.sql_lemmas.proofs.Frames.{wide};
+ghost use Rattle.sql_rows.specs.Marks.{presence_in};
 ghost use Rattle.sql_schema.specs.Contents.{presences, presences_before_sessions};
 ghost use Rattle.sql_schema.specs.CopiedRows.{Copies};
+ghost use Rattle.sql_schema.specs.Statements.{CommitsNothing, Does};
+ghost use Rattle.sql_schema.specs.Tables.{presences_before_sessions_table, presences_table, up_to_sessions};
 ghost use Rattle.sql_meeting_tables.specs.Copying.{CopiesTyped};
-ghost use Rattle.sql_schema.specs.Statements.{Adds, CommitsNothing, Does};
-ghost use Rattle.sql_schema.specs.Tables.{presences_table, presences_before_sessions_table, up_to_sessions};
-ghost use Rattle.sql_schema.specs.SqlTexts.{filed_text};
-ghost use Rattle.sql_meeting_tables.specs.SessionTables.{presences_added, presences_listed, presences_made};
+ghost use Rattle.sql_stored.specs.Stored.{HasTexts, as_filed};
 
-use desk_words::{MeetingId, PresenceMark};
-use sql_lemmas::whole;
-use sql_rows::{InMeeting, meeting_text, moment_number, party_text};
-use sql_stored::{FilledTable, ListedTable, MadeTable, ReadTable, add_row, adding, listing};
-use sqlite::{Alter, Error, Transaction, params};
+use desk_words::PresenceMark;
+use sql_stored::{FiledTable, TableTexts, table_texts};
+use sqlite::{Alter, Error, Transaction};
 
 /// The name and the columns of the table, for a text of this form.
 #[macro_export]
@@ -25,65 +27,31 @@ macro_rules! presences_text {
 /// The parties that are present, in order of receipt (section 318).
 pub struct Presences;
 
-impl ListedTable for Presences {
-    type Record = InMeeting<PresenceMark>;
+impl FiledTable for Presences {
+    type Item = PresenceMark;
 
-    ghost declared = { presences_table };
+    ghost stands = { as_filed presences_table presences up_to_sessions };
 
-    ghost table = { presences };
-
-    fn listing() -> &'static str {
-        presences_text!(listing)
+    fn texts() -> TableTexts {
+        presences_text!(
+            table_texts,
+            "?1, ?2, ?3, ?4",
+            "CREATE TABLE presences2 (seq INTEGER PRIMARY KEY AUTOINCREMENT, meeting TEXT NOT NULL REFERENCES meetings (meeting), session INTEGER NOT NULL, party TEXT NOT NULL, moment INTEGER NOT NULL, UNIQUE (meeting, session, party)) STRICT"
+        )
     }
 
-    ghost lists = { presences_listed };
-}
-
-impl ReadTable for Presences {
-    ghost reads_as = { refl };
-}
-
-impl MadeTable for Presences {
-    ghost before = { up_to_sessions };
-
-    ghost making = { filed_text presences_table };
-
-    fn making() -> &'static str {
-        "CREATE TABLE presences2 (seq INTEGER PRIMARY KEY AUTOINCREMENT, meeting TEXT NOT NULL REFERENCES meetings (meeting), session INTEGER NOT NULL, party TEXT NOT NULL, moment INTEGER NOT NULL, UNIQUE (meeting, session, party)) STRICT"
-    }
-
-    ghost makes = { presences_made };
-}
-
-impl FilledTable for Presences {
-    fn adding() -> &'static str {
-        presences_text!(adding, "?1, ?2, ?3, ?4")
-    }
-
-    ghost adds = { presences_added };
-}
-
-/// Adds a party's presence at a session of a meeting.
-pub fn add<S: Alter>(
-    tx: &mut Transaction<'_, S>,
-    meeting: MeetingId,
-    presence: &PresenceMark,
-) -> Result<usize, Error>
-    ensures same_reference { tx.new.conn.ghost_name ≡ tx.old.conn.ghost_name }
-    ensures added { Does S.Store tx.old.conn.now tx.new.conn.now result
-        (Adds presences (record { meeting = meeting; item = presence.now })) }
-    ensures commits { CommitsNothing S.Store tx.old.conn.now tx.new.conn.now }
-{
-    let session = whole(presence.session)?;
-    add_row::<Presences, S>(
-        tx,
-        params![
-            meeting_text(&meeting),
-            session,
-            party_text(&presence.party),
-            moment_number(presence.moment)
-        ],
-    )
+    ghost filed = { unfold understood everything same_name presence_in in record {
+      stored = record {
+        makes = record { is = refl; alone = refl; plain = (refl, refl); defined = refl; full = refl };
+        texts = wide (HasTexts presences presences_table) (λ others apart indexes views. record {
+          lists = record { is = refl; plain = (refl, refl); unlisted = refl };
+          adds = record { place = 15; is = refl; plain = (refl, refl); there = refl; numbered = refl };
+        });
+        listed = (refl, refl);
+      };
+      keeps = λ a b c d. (refl, λ id. refl);
+      meant = refl;
+    } };
 }
 
 /// Copies the rows of version 1, each under the number that it has there and as of the first session

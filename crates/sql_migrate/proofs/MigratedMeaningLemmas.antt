@@ -26,6 +26,7 @@ use Rattle.sql_schema.specs.Contents.{demands_before_sessions, polls_before_sess
 use Rattle.sql_schema.specs.CopiedRows.{Copied, Copies, in_first_session}
 use Rattle.sql_schema.specs.Statements.{Empties, ExtendsSchema, Sets, TableOf, columns_of, has_table, layout_two, records_in, table_rows}
 use Rattle.sql_schema.specs.Tables.{demands_before_sessions_table, desk_schema, polls_before_sessions_table, presences_before_sessions_table, schema_one}
+use Rattle.sql_model.proofs.ModelMovingLemmas.{demand_same, presence_same}
 use Rattle.sql_model.specs.OfficeRecords.{FlatLists, flat_one, flat_two}
 use Rattle.sql_model.specs.Standing.{two}
 use Rattle.sql_model.proofs.FlatChanges.{HoldAll, all_held, some_is}
@@ -34,14 +35,14 @@ use Rattle.sql_meeting_tables.specs.Copying.{AreTyped, CopiesTyped}
 -- ---- what a row means in the first session, it meant
 
 presence_meant : (cells : Row) (x : InMeeting PresenceMark) → presence_in (in_first_session cells) ≡ Some x → presence_before_sessions_in cells ≡ Some x
-unfolding presence_before_sessions_in presence_in parsed_in moment_in number_in
+unfolding presence_in
 presence_meant [] x h = absurd cc
-presence_meant (meeting ∷ cells) x h = h
+presence_meant (meeting ∷ cells) x h = sym (presence_same meeting cells) ∙ h
 
 demand_meant : (cells : Row) (x : InMeeting DemandMark) → demand_mark_in (in_first_session cells) ≡ Some x → demand_before_sessions_in cells ≡ Some x
-unfolding demand_before_sessions_in demand_mark_in parsed_in moment_in number_in
+unfolding demand_mark_in
 demand_meant [] x h = absurd cc
-demand_meant (meeting ∷ cells) x h = h
+demand_meant (meeting ∷ cells) x h = sym (demand_same meeting cells) ∙ h
 
 poll_meant : (cells : Row) (x : InMeeting Poll) → poll_in (in_first_session cells) ≡ Some x → poll_before_sessions_in cells ≡ Some x
 unfolding poll_before_sessions_in poll_in parsed_in moment_in number_in flag_in some_moment_in declared_in

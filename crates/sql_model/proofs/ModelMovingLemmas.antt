@@ -3,19 +3,23 @@ use Rattle.std.proofs.Common.{◌≡◌, ◌≢◌, ℕ, ◌==◌, true, false, 
 use Rattle.std.specs.List.{AllByRecursion, list_any}
 use Rattle.std.proofs.lemmas.Bool.Decides.{eqb_tells, nat_tests}
 use Rattle.std.proofs.lemmas.List.Folds.{list_any-append}
-use Rattle.sqlite.specs.Order.{Row}
+use Rattle.sqlite.specs.Order.{Row, column}
 use Rattle.sqlite.specs.State.{State}
 use Rattle.sqlite.specs.Tree.{Trees, rowid}
+use Rattle.sqlite.specs.declared.types.Value.{Value}
 use Rattle.desk_words.specs.declared.records.PresenceMark.{PresenceMark}
 use Rattle.desk_words.specs.declared.records.DemandMark.{DemandMark}
 use Rattle.desk_words.specs.declared.records.Poll.{Poll}
 use Rattle.desk_words.specs.declared.records.Session.{Session}
 use Rattle.sql_rows.specs.declared.stored_records.InMeeting.{InMeeting}
 use Rattle.sql_rows.specs.declared.stored_records.Numbered.{Numbered}
-use Rattle.sql_rows.specs.ColumnValues.{flag_in, moment_in, number_in, some_moment_in, parsed_in}
-use Rattle.sql_rows.specs.Marks.{declared_in, demand_mark_in, demand_before_sessions_in, poll_in, poll_before_sessions_in, presence_in, presence_before_sessions_in}
+use Rattle.sql_rows.specs.ColumnValues.{flag_in, moment_in, natural_value, number_in, some_moment_in, parsed_in, parsed_of}
+use Rattle.sql_rows.specs.Columns.{moment_value}
+use Rattle.sql_rows.specs.Marks.{declared_in, demand_mark_in, demand_mark_of, demand_before_sessions_in, poll_in, poll_before_sessions_in, presence_in, presence_of, presence_before_sessions_in}
 use Rattle.sql_rows.specs.Meanings.{all_meanings}
+use Rattle.sql_rows.proofs.ColumnLemmas.{in_first, three_in_first}
 use Rattle.sql_rows.proofs.RowMeaningLemmas.{bound}
+use Rattle.vocabulary.specs.Names.{meeting_of, party_of}
 use Rattle.sql_schema.specs.Contents as table
 use Rattle.sql_schema.specs.Contents.{demands_before_sessions, polls_before_sessions, presences_before_sessions}
 use Rattle.sql_schema.specs.CopiedRows.{Copied, Copies, in_first_session}
@@ -28,15 +32,27 @@ use Rattle.sql_model.proofs.FlatChanges.{HoldAll, both_read, flat_held, some_is}
 
 -- ---- what a row means in the first session
 
+pub presence_same : (meeting : Value) (cells : Row) → presence_in (in_first_session (meeting ∷ cells)) ≡ presence_before_sessions_in (meeting ∷ cells)
+unfolding presence_before_sessions_in presence_in parsed_in moment_in
+presence_same meeting cells =
+    let of = λ (m : List ℕ) (r : ℕ × (List ℕ × ℕ)). record { meeting = m; item = presence_of r } in
+    in_first (parsed_of meeting_of meeting) (parsed_of party_of (column cells 0)) (moment_value (column cells 1)) of
+
+pub demand_same : (meeting : Value) (cells : Row) → demand_mark_in (in_first_session (meeting ∷ cells)) ≡ demand_before_sessions_in (meeting ∷ cells)
+unfolding demand_before_sessions_in demand_mark_in parsed_in moment_in number_in
+demand_same meeting cells =
+    let of = λ (m : List ℕ) (r : ℕ × (ℕ × (List ℕ × ℕ))). record { meeting = m; item = demand_mark_of r } in
+    three_in_first (parsed_of meeting_of meeting) (natural_value (column cells 0)) (parsed_of party_of (column cells 1)) (moment_value (column cells 2)) of
+
 pub presence_moved : (cells : Row) (x : InMeeting PresenceMark) → presence_before_sessions_in cells ≡ Some x → presence_in (in_first_session cells) ≡ Some x
-unfolding presence_before_sessions_in presence_in parsed_in moment_in number_in
+unfolding presence_before_sessions_in
 presence_moved [] x h = absurd cc
-presence_moved (meeting ∷ cells) x h = h
+presence_moved (meeting ∷ cells) x h = presence_same meeting cells ∙ h
 
 pub demand_moved : (cells : Row) (x : InMeeting DemandMark) → demand_before_sessions_in cells ≡ Some x → demand_mark_in (in_first_session cells) ≡ Some x
-unfolding demand_before_sessions_in demand_mark_in parsed_in moment_in number_in
+unfolding demand_before_sessions_in
 demand_moved [] x h = absurd cc
-demand_moved (meeting ∷ cells) x h = h
+demand_moved (meeting ∷ cells) x h = demand_same meeting cells ∙ h
 
 pub poll_moved : (cells : Row) (x : InMeeting Poll) → poll_before_sessions_in cells ≡ Some x → poll_in (in_first_session cells) ≡ Some x
 unfolding poll_before_sessions_in poll_in parsed_in moment_in number_in flag_in some_moment_in declared_in

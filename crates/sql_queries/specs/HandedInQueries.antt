@@ -6,9 +6,11 @@ use Rattle.desk_words.specs.declared.records.Authority.{Authority}
 use Rattle.desk_words.specs.declared.records.CastMark.{CastMark}
 use Rattle.desk_words.specs.declared.records.Ending.{Ending}
 use Rattle.sql_lemmas.proofs.Frames.{wide_one}
+use Rattle.sql_rows.proofs.ColumnLemmas.{both_there, of_parts}
 use Rattle.sql_rows.proofs.RowMeaningLemmas.{bound, option_ap}
-use Rattle.sql_rows.specs.AppointmentRows.{appointment_in, authority_in, ending_in}
+use Rattle.sql_rows.specs.AppointmentRows.{appointment_in, authority_in, authority_of, ending_in, ending_of}
 use Rattle.sql_rows.specs.ColumnValues.{moment_in, number_in, parsed_in}
+use Rattle.sql_rows.specs.Columns.{◌▸◌, moment_at, number_at, party_at}
 use Rattle.sql_rows.specs.InstructionLetters.{instructions_of}
 use Rattle.sql_rows.specs.Marks.{cast_in, cast_kind_in}
 use Rattle.sql_rows.specs.declared.stored_records.InMeeting.{InMeeting}
@@ -85,15 +87,8 @@ names_ending : (cells : Row) (x : InMeeting Ending)
     → ending_in cells ≡ Some x
     → (parsed_in meeting_of cells 0 ≡ Some x.meeting)
     × (parsed_in party_of cells 1 ≡ Some x.item.member)
-unfolding ending_in
-names_ending cells x h =
-    let meeting = bound (parsed_in meeting_of cells 0) _ x h in
-    let member = bound (parsed_in party_of cells 1) _ x meeting.2 in
-    let number = bound (number_in cells 2) _ x member.2 in
-    let moment = bound (moment_in cells 3) _ x number.2 in (
-      meeting.1 ∙ option_ap (λ (y : InMeeting Ending). y.meeting) moment.2,
-      member.1 ∙ option_ap (λ (y : InMeeting Ending). y.item.member) moment.2,
-    )
+unfolding ending_in parsed_in number_in
+names_ending cells = of_parts (party_at ▸ number_at ▸ moment_at) ending_of (λ y. (parsed_in meeting_of cells 0 ≡ Some y.meeting) × (parsed_in party_of cells 1 ≡ Some y.item.member)) cells (λ meeting parts is there. (is, (both_there _ _ parts there).0))
 
 pub ending_made_by
     : FindsBy endings endings_table both_tests HoldParty (0 ∷ 1 ∷ [])
@@ -125,16 +120,8 @@ names_authority : (cells : Row) (x : InMeeting Authority)
     → (parsed_in meeting_of cells 0 ≡ Some x.meeting)
     × (parsed_in party_of cells 1 ≡ Some x.item.corporation)
     × (parsed_in party_of cells 2 ≡ Some x.item.person)
-unfolding authority_in
-names_authority cells x h =
-    let meeting = bound (parsed_in meeting_of cells 0) _ x h in
-    let corporation = bound (parsed_in party_of cells 1) _ x meeting.2 in
-    let person = bound (parsed_in party_of cells 2) _ x corporation.2 in
-    let moment = bound (moment_in cells 3) _ x person.2 in (
-      meeting.1 ∙ option_ap (λ (y : InMeeting Authority). y.meeting) moment.2,
-      corporation.1 ∙ option_ap (λ (y : InMeeting Authority). y.item.corporation) moment.2,
-      person.1 ∙ option_ap (λ (y : InMeeting Authority). y.item.person) moment.2,
-    )
+unfolding authority_in parsed_in number_in
+names_authority cells = of_parts (party_at ▸ party_at ▸ moment_at) authority_of (λ y. (parsed_in meeting_of cells 0 ≡ Some y.meeting) × (parsed_in party_of cells 1 ≡ Some y.item.corporation) × (parsed_in party_of cells 2 ≡ Some y.item.person)) cells (λ meeting parts is there. let first = both_there _ _ parts there in (is, first.0, (both_there _ _ parts.1 first.1).0))
 
 pub authority_given_by
     : FindsBy authorities authorities_table both_tests HoldParty (0 ∷ 1 ∷ [])

@@ -5,9 +5,11 @@ use Rattle.desk_words.specs.declared.records.DemandMark.{DemandMark}
 use Rattle.desk_words.specs.declared.records.Poll.{Poll}
 use Rattle.desk_words.specs.declared.records.PresenceMark.{PresenceMark}
 use Rattle.sql_lemmas.proofs.Frames.{wide}
+use Rattle.sql_rows.proofs.ColumnLemmas.{both_there, of_parts}
 use Rattle.sql_rows.proofs.RowMeaningLemmas.{bound, option_ap}
 use Rattle.sql_rows.specs.ColumnValues.{flag_in, moment_in, number_in, parsed_in, some_moment_in}
-use Rattle.sql_rows.specs.Marks.{declared_in, demand_mark_in, poll_in, presence_in}
+use Rattle.sql_rows.specs.Columns.{◌▸◌, moment_at, number_at, party_at}
+use Rattle.sql_rows.specs.Marks.{declared_in, demand_mark_in, demand_mark_of, poll_in, presence_in, presence_of}
 use Rattle.sql_rows.specs.declared.stored_records.InMeeting.{InMeeting}
 use Rattle.sql_schema.specs.Contents.{demands, polls, presences}
 use Rattle.sql_schema.specs.Tables.{demands_table, polls_table, presences_table}
@@ -24,15 +26,8 @@ names_presence : (cells : Row) (x : InMeeting PresenceMark)
     → presence_in cells ≡ Some x
     → (parsed_in meeting_of cells 0 ≡ Some x.meeting)
     × (parsed_in party_of cells 2 ≡ Some x.item.party)
-unfolding presence_in
-names_presence cells x h =
-    let meeting = bound (parsed_in meeting_of cells 0) _ x h in
-    let session = bound (number_in cells 1) _ x meeting.2 in
-    let party = bound (parsed_in party_of cells 2) _ x session.2 in
-    let moment = bound (moment_in cells 3) _ x party.2 in (
-      meeting.1 ∙ option_ap (λ (y : InMeeting PresenceMark). y.meeting) moment.2,
-      party.1 ∙ option_ap (λ (y : InMeeting PresenceMark). y.item.party) moment.2,
-    )
+unfolding presence_in parsed_in number_in
+names_presence cells = of_parts (number_at ▸ party_at ▸ moment_at) presence_of (λ y. (parsed_in meeting_of cells 0 ≡ Some y.meeting) × (parsed_in party_of cells 2 ≡ Some y.item.party)) cells (λ meeting parts is there. (is, (both_there _ _ parts.1 (both_there _ _ parts there).1).0))
 
 pub presence_of_party
     : FindsBy presences presences_table both_tests HoldParty (0 ∷ 2 ∷ [])
@@ -63,16 +58,8 @@ names_demand : (cells : Row) (x : InMeeting DemandMark)
     → demand_mark_in cells ≡ Some x
     → (parsed_in meeting_of cells 0 ≡ Some x.meeting)
     × (parsed_in party_of cells 3 ≡ Some x.item.party)
-unfolding demand_mark_in
-names_demand cells x h =
-    let meeting = bound (parsed_in meeting_of cells 0) _ x h in
-    let session = bound (number_in cells 1) _ x meeting.2 in
-    let resolution = bound (number_in cells 2) _ x session.2 in
-    let party = bound (parsed_in party_of cells 3) _ x resolution.2 in
-    let moment = bound (moment_in cells 4) _ x party.2 in (
-      meeting.1 ∙ option_ap (λ (y : InMeeting DemandMark). y.meeting) moment.2,
-      party.1 ∙ option_ap (λ (y : InMeeting DemandMark). y.item.party) moment.2,
-    )
+unfolding demand_mark_in parsed_in number_in
+names_demand cells = of_parts (number_at ▸ number_at ▸ party_at ▸ moment_at) demand_mark_of (λ y. (parsed_in meeting_of cells 0 ≡ Some y.meeting) × (parsed_in party_of cells 3 ≡ Some y.item.party)) cells (λ meeting parts is there. let later = both_there _ _ parts.1 (both_there _ _ parts there).1 in (is, (both_there _ _ parts.1.1 later.1).0))
 
 pub demand_made_by
     : FindsBy demands demands_table both_tests HoldParty (0 ∷ 3 ∷ [])

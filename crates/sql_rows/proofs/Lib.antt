@@ -1,3 +1,4 @@
+pub mod ColumnLemmas
 pub mod InstructionLemmas
 pub mod RowColumnLemmas
 pub mod RowMeaningLemmas

@@ -1,7 +1,9 @@
 pub mod AppointmentRows
 pub mod ColumnValues
+pub mod Columns
 pub mod DeskRows
 pub mod InstructionLetters
 pub mod Marks
 pub mod Meanings
 pub mod Meetings
+pub mod StayLemmas

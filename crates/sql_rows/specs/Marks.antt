@@ -15,39 +15,23 @@ use Rattle.desk_words.specs.declared.records.CastKind.TheVariants as kind
 use Rattle.desk_words.specs.declared.records.CastMark.{CastMark}
 use Rattle.sql_rows.specs.declared.stored_records.InMeeting.{InMeeting}
 use Rattle.vocabulary.specs.OptionSteps.{◌>>=◌}
+use Rattle.sql_rows.specs.Columns.{◌▸◌, in_meeting, moment_at, number_at, party_at}
 use Rattle.sql_rows.specs.ColumnValues.{parsed_in, parsed_of, parsed_word_of, number_in, natural_value, flag_in, moment_in, some_moment_in, is_null}
 
 -- a party that is present at a session: meeting, session, party, moment (section 318)
+abbrev pub presence_of : ℕ × (List ℕ × ℕ) → PresenceMark
+presence_of p = record { session = p.0; party = p.1.0; moment = p.1.1 }
+
 unfoldable pub presence_in : Row → Option (InMeeting PresenceMark)
-presence_in cells = do
-  meeting ← parsed_in meeting_of cells 0
-  session ← number_in cells 1
-  party ← parsed_in party_of cells 2
-  moment ← moment_in cells 3
-  Some
-      (record {
-        meeting = meeting;
-        item = record { session = session; party = party; moment = moment };
-      })
+presence_in = in_meeting (number_at ▸ party_at ▸ moment_at) presence_of
 
 -- a demand of a poll: meeting, session, resolution, party, moment (sections 321 and 329)
+abbrev pub demand_mark_of : ℕ × (ℕ × (List ℕ × ℕ)) → DemandMark
+demand_mark_of p =
+    record { session = p.0; resolution = p.1.0; party = p.1.1.0; moment = p.1.1.1 }
+
 unfoldable pub demand_mark_in : Row → Option (InMeeting DemandMark)
-demand_mark_in cells = do
-  meeting ← parsed_in meeting_of cells 0
-  session ← number_in cells 1
-  resolution ← number_in cells 2
-  party ← parsed_in party_of cells 3
-  moment ← moment_in cells 4
-  Some
-      (record {
-        meeting = meeting;
-        item = record {
-          session = session;
-          resolution = resolution;
-          party = party;
-          moment = moment;
-        };
-      })
+demand_mark_in = in_meeting (number_at ▸ number_at ▸ party_at ▸ moment_at) demand_mark_of
 
 -- the count in four columns, of which none is NULL
 abbrev pub tally_from : Value → Value → Value → Value → Option Tally

@@ -1,5 +1,5 @@
 -- What rows mean: a thing, or nothing.
-use Rattle.std.specs.Prelude.{◌≡◌, List, [], ◌∷◌, Option, Some, None, Result, Ok, Err, Bool, true, false}
+use Rattle.std.specs.Prelude.{◌≡◌, List, [], ◌∷◌, Option, Some, None, Result}
 use Rattle.vocabulary.specs.Agreement.{Agrees}
 use Rattle.vocabulary.specs.OptionSteps.{◌>>=◌}
 use Rattle.sqlite.specs.Order.{Row}

@@ -5,18 +5,23 @@
 
 mod calls;
 mod column;
+mod column_types;
+mod columns;
 mod fault;
 mod instructions;
 mod list;
 mod marks;
+mod numbers;
 mod office;
 mod proxy_rows;
 mod stored_records;
 mod values;
 
+pub use columns::{Column, Columns, MeetingRecord};
 pub use fault::RowError;
 pub use instructions::letters_of;
 pub use list::{FromRow, records};
+pub use numbers::{tally, whole};
 pub use stored_records::{InMeeting, MeetingRow, Numbered, Version};
 pub use values::{
     CastColumns, TallyColumns, caller_text, capacity_text, cast_columns, company_text, day_number,

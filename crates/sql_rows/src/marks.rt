@@ -1,66 +1,64 @@
 //! Rows of presences, demands, polls and casts.
-ghost use Rattle.std.specs.Prelude.{◌≡◌};
+ghost use Rattle.std.specs.Prelude.{◌≡◌, refl};
 ghost use Rattle.vocabulary.specs.Identity.{id};
 ghost use Rattle.sqlite.specs.Order.{column};
 ghost use Rattle.sql_rows.specs.Meanings.{RowAgreesExactly};
-ghost use Rattle.sql_rows.specs.Marks.{presence_in, demand_mark_in, tally_from, declared_in, poll_in, block_from, is_instructed, cast_kind_in, cast_in};
+ghost use Rattle.sql_rows.specs.Marks.{presence_of, demand_mark_of, tally_from, declared_in, poll_in, block_from, is_instructed, cast_kind_in, cast_in};
 
 use crate::column::{
     capacity_in, flag_in, is_null, meeting_in, moment_in, number_in, party_in, some_moment_in,
     way_in, word_in,
 };
+use crate::columns::MeetingRecord;
 use crate::fault::RowError;
 use crate::list::FromRow;
 use crate::proxy_rows::range_of;
 use crate::stored_records::InMeeting;
-use desk_words::{Block, CastKind, CastMark, DemandMark, Poll, PresenceMark, Tally};
+use desk_words::{Block, CastKind, CastMark, DemandMark, Moment, Party, Poll, PresenceMark, Tally};
 use sqlite::Row;
 use std::alloc::Global;
 
-impl FromRow for InMeeting<PresenceMark> {
-    ghost means = { presence_in };
+impl MeetingRecord for PresenceMark {
+    type Parts = (u64, (Party, Moment));
 
-    #[tactic(auto, unfolding(crate::specs::Marks::presence_in))]
-    fn from_row(_: Global, row: &Row) -> Result<InMeeting<PresenceMark>, RowError>
-        ensures { RowAgreesExactly id result (presence_in row.now) }
-    {
-        let meeting = meeting_in(row, 0)?;
-        let session = number_in(row, 1)?;
-        let party = party_in(row, 2)?;
-        let moment = moment_in(row, 3)?;
-        Ok(InMeeting {
-            meeting,
-            item: PresenceMark {
-                session,
-                party,
-                moment,
-            },
-        })
+    ghost of = { presence_of };
+
+    fn of(parts: Self::Parts) -> PresenceMark {
+        let (session, (party, moment)) = parts;
+        PresenceMark {
+            session,
+            party,
+            moment,
+        }
     }
+
+    fn parts(&self) -> Self::Parts {
+        (self.session, (self.party, self.moment))
+    }
+
+    ghost narrow = { refl };
 }
 
-impl FromRow for InMeeting<DemandMark> {
-    ghost means = { demand_mark_in };
+impl MeetingRecord for DemandMark {
+    type Parts = (u64, (u64, (Party, Moment)));
 
-    #[tactic(auto, unfolding(crate::specs::Marks::demand_mark_in))]
-    fn from_row(_: Global, row: &Row) -> Result<InMeeting<DemandMark>, RowError>
-        ensures { RowAgreesExactly id result (demand_mark_in row.now) }
-    {
-        let meeting = meeting_in(row, 0)?;
-        let session = number_in(row, 1)?;
-        let resolution = number_in(row, 2)?;
-        let party = party_in(row, 3)?;
-        let moment = moment_in(row, 4)?;
-        Ok(InMeeting {
-            meeting,
-            item: DemandMark {
-                session,
-                resolution,
-                party,
-                moment,
-            },
-        })
+    ghost of = { demand_mark_of };
+
+    fn of(parts: Self::Parts) -> DemandMark {
+        let (session, (resolution, (party, moment))) = parts;
+        DemandMark {
+            session,
+            resolution,
+            party,
+            moment,
+        }
     }
+
+    fn parts(&self) -> Self::Parts {
+        (self.session, (self.resolution, (self.party, self.moment)))
+    }
+
+    ghost narrow = { refl };
 }
 
 #[tactic(auto, unfolding(crate::specs::ColumnValues::number_in))]

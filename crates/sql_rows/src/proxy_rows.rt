@@ -1,18 +1,19 @@
 //! Rows of appointments, endings and authorities.
-ghost use Rattle.std.specs.Prelude.{◌≡◌};
+ghost use Rattle.std.specs.Prelude.{◌≡◌, refl};
 ghost use Rattle.vocabulary.specs.Identity.{id};
 ghost use Rattle.vocabulary.specs.Places.{range_of};
 ghost use Rattle.sql_rows.specs.Meanings.{RowAgrees, RowAgreesExactly};
 ghost use Rattle.sql_rows.specs.ColumnValues.{parsed_in};
 ghost use Rattle.sql_rows.specs.InstructionLetters.{instructions_of};
-ghost use Rattle.sql_rows.specs.AppointmentRows.{appointment_in, ending_in, authority_in};
+ghost use Rattle.sql_rows.specs.AppointmentRows.{appointment_in, authority_of, ending_of};
 
 use crate::column::{bytes_in, meeting_in, moment_in, number_in, party_in};
+use crate::columns::MeetingRecord;
 use crate::fault::RowError;
 use crate::instructions::instructions_of;
 use crate::list::FromRow;
 use crate::stored_records::InMeeting;
-use desk_words::{Appointment, Authority, Ending, Instructions, Range};
+use desk_words::{Appointment, Authority, Ending, Instructions, Moment, Party, Range};
 use sqlite::Row;
 use std::alloc::Global;
 
@@ -58,46 +59,44 @@ impl FromRow for InMeeting<Appointment> {
     }
 }
 
-impl FromRow for InMeeting<Ending> {
-    ghost means = { ending_in };
+impl MeetingRecord for Ending {
+    type Parts = (Party, (u64, Moment));
 
-    #[tactic(auto, unfolding(crate::specs::AppointmentRows::ending_in))]
-    fn from_row(_: Global, row: &Row) -> Result<InMeeting<Ending>, RowError>
-        ensures { RowAgreesExactly id result (ending_in row.now) }
-    {
-        let meeting = meeting_in(row, 0)?;
-        let member = party_in(row, 1)?;
-        let number = number_in(row, 2)?;
-        let moment = moment_in(row, 3)?;
-        Ok(InMeeting {
-            meeting,
-            item: Ending {
-                member,
-                number,
-                moment,
-            },
-        })
+    ghost of = { ending_of };
+
+    fn of(parts: Self::Parts) -> Ending {
+        let (member, (number, moment)) = parts;
+        Ending {
+            member,
+            number,
+            moment,
+        }
     }
+
+    fn parts(&self) -> Self::Parts {
+        (self.member, (self.number, self.moment))
+    }
+
+    ghost narrow = { refl };
 }
 
-impl FromRow for InMeeting<Authority> {
-    ghost means = { authority_in };
+impl MeetingRecord for Authority {
+    type Parts = (Party, (Party, Moment));
 
-    #[tactic(auto, unfolding(crate::specs::AppointmentRows::authority_in))]
-    fn from_row(_: Global, row: &Row) -> Result<InMeeting<Authority>, RowError>
-        ensures { RowAgreesExactly id result (authority_in row.now) }
-    {
-        let meeting = meeting_in(row, 0)?;
-        let corporation = party_in(row, 1)?;
-        let person = party_in(row, 2)?;
-        let moment = moment_in(row, 3)?;
-        Ok(InMeeting {
-            meeting,
-            item: Authority {
-                corporation,
-                person,
-                moment,
-            },
-        })
+    ghost of = { authority_of };
+
+    fn of(parts: Self::Parts) -> Authority {
+        let (corporation, (person, moment)) = parts;
+        Authority {
+            corporation,
+            person,
+            moment,
+        }
     }
+
+    fn parts(&self) -> Self::Parts {
+        (self.corporation, (self.person, self.moment))
+    }
+
+    ghost narrow = { refl };
 }

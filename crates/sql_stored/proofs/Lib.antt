@@ -1,1 +1,2 @@
+pub mod FiledLemmas
 pub mod Finding

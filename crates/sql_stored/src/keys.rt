@@ -8,8 +8,7 @@ ghost use Rattle.vocabulary.specs.Names.{same_name};
 ghost use Rattle.sql_stored.specs.KeyLemmas.{of_meeting, of_number, of_numbered, of_parties, of_party};
 
 use desk_words::{MeetingId, Party};
-use sql_lemmas::whole;
-use sql_rows::{meeting_text, party_text};
+use sql_rows::{meeting_text, party_text, whole};
 use sqlite::{Alter, Error, Row, Transaction, params};
 
 /// By what rows are found.

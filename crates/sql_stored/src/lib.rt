@@ -2,15 +2,18 @@
 //! or an index, adds a row, lists the rows, finds those of a key, and takes out all of them.
 #![tactic(auto)]
 
+mod filed;
 mod index;
 mod keys;
 mod query;
 mod table;
 mod texts;
 
+pub use filed::{FiledTable, add};
 pub use index::{StoredIndex, make_index};
 pub use keys::RowKey;
 pub use query::{Query, find};
 pub use table::{
-    EmptiedTable, FilledTable, ListedTable, MadeTable, ReadTable, add_row, all, empty, make,
+    EmptiedTable, FilledTable, ListedTable, MadeTable, ReadTable, StoredTable, TableTexts, add_row,
+    all, empty, make,
 };

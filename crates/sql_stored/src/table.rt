@@ -8,7 +8,7 @@ ghost use Rattle.sql_lemmas.proofs.Listing.{ListsTable};
 ghost use Rattle.sql_lemmas.proofs.Making.{MakesTable};
 ghost use Rattle.sql_schema.specs.SqlTexts.{adding_text, listing_text};
 ghost use Rattle.sql_schema.specs.Statements.{Adds, ChangesNothing, CommitsNothing, Does, Empties, IsRead, Makes, ReadsTable, TableOf, layout_two};
-ghost use Rattle.sql_stored.specs.Stored.{AddsRows, EmptiesTable, IsRowOf, emptying_text};
+ghost use Rattle.sql_stored.specs.Stored.{AddsRows, EmptiesTable, IsRowOf, IsStored, Stands, adds_of, emptying_text, lists_of};
 
 use sql_rows::FromRow;
 use sqlite::{Alter, Error, Row, Transaction};
@@ -72,6 +72,65 @@ pub trait EmptiedTable: ListedTable {
 
     // The text does so.
     ghost empties: { EmptiesTable Self.table Self.declared };
+}
+
+/// The texts of the statements on a table: that makes it, that shows all rows, and that adds one.
+#[derive(Clone, Copy)]
+pub struct TableTexts {
+    pub making: &'static str,
+    pub listing: &'static str,
+    pub adding: &'static str,
+}
+
+/// A table that is made, shown and added to.
+pub trait StoredTable {
+    type Record;
+
+    // How it is declared, what its rows mean, and what is declared before it is made.
+    ghost stands: { Stands Self.Record };
+
+    /// The texts of its statements.
+    fn texts() -> TableTexts
+        ensures making { result.making.now ≡ stands.making }
+        ensures listing { result.listing.now ≡ listing_text stands.declared }
+        ensures adding { result.adding.now ≡ adding_text stands.declared };
+
+    // The texts do what they say.
+    ghost stored: { IsStored stands };
+}
+
+impl<T: StoredTable> ListedTable for T {
+    type Record = T::Record;
+
+    ghost declared = { T.stands.declared };
+
+    ghost table = { T.stands.table };
+
+    fn listing() -> &'static str {
+        T::texts().listing
+    }
+
+    ghost lists = { lists_of T.stored };
+}
+
+impl<T: StoredTable> MadeTable for T {
+    ghost before = { T.stands.before };
+
+    ghost making = { T.stands.making };
+
+    fn making() -> &'static str {
+        T::texts().making
+    }
+
+    ghost makes = { T.stored.makes };
+}
+
+impl<T: StoredTable> FilledTable for T {
+    fn adding() -> &'static str {
+        T::texts().adding
+    }
+
+    ghost adds = { adds_of T.stored };
 }
 
 /// Makes a table, after what is declared before it.

@@ -1,6 +1,18 @@
 //! Texts of statements, made of the name of a table, of its columns, and of that of the numbers of
 //! its rows.
 
+/// The texts of a table: those made of its columns, and its own that makes it.
+#[macro_export]
+macro_rules! table_texts {
+    ($table:literal, $columns:literal, $order:literal, $values:literal, $making:literal) => {
+        $crate::TableTexts {
+            making: $making,
+            listing: $crate::listing!($table, $columns, $order),
+            adding: $crate::adding!($table, $columns, $order, $values),
+        }
+    };
+}
+
 /// Adds a row of these values.
 #[macro_export]
 macro_rules! adding {

@@ -5,7 +5,12 @@ ghost use Rattle.desk_words.specs.declared.change.MeetingChange.TheVariants as m
 ghost use Rattle.sql_write.specs.Writes.{Writes};
 
 use desk_words::{Entry, MeetingId};
-use sql_meeting_tables::{appointments, authorities, casts, demands, endings, presences};
+use sql_meeting_tables::authorities::Authorities;
+use sql_meeting_tables::demands::Demands;
+use sql_meeting_tables::endings::Endings;
+use sql_meeting_tables::presences::Presences;
+use sql_meeting_tables::{appointments, casts};
+use sql_stored::add;
 use sqlite::{Alter, Error, Transaction};
 use std::alloc::Global;
 
@@ -23,10 +28,10 @@ pub(crate) fn enter<S: Alter>(
 {
     match entry {
         Entry::Appointment(appointment) => appointments::add(alloc, tx, meeting, appointment)?,
-        Entry::Ending(ending) => endings::add(tx, meeting, ending)?,
-        Entry::Authority(authority) => authorities::add(tx, meeting, authority)?,
-        Entry::Presence(presence) => presences::add(tx, meeting, presence)?,
-        Entry::Demand(demand) => demands::add(tx, meeting, demand)?,
+        Entry::Ending(ending) => add::<Endings, S>(tx, meeting, ending)?,
+        Entry::Authority(authority) => add::<Authorities, S>(tx, meeting, authority)?,
+        Entry::Presence(presence) => add::<Presences, S>(tx, meeting, presence)?,
+        Entry::Demand(demand) => add::<Demands, S>(tx, meeting, demand)?,
         Entry::Cast(cast) => casts::add(tx, meeting, cast)?,
     };
     Ok(())

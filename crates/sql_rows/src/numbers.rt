@@ -7,8 +7,8 @@ ghost use Rattle.sqlite.specs.declared.types.Value.TheVariants.{Int};
 ghost use Rattle.sql_rows.specs.ColumnValues.{natural_of};
 ghost use Rattle.sql_rows.specs.Marks.{HasTooHighFigure, declared_of};
 
+use crate::values::{TallyColumns, tally_columns, whole_number};
 use desk_words::Tally;
-use sql_rows::{TallyColumns, tally_columns, whole_number};
 use sqlite::{Error, ErrorCode};
 
 /// A number is above 2^63 - 1, the highest that is kept.
