@@ -1,7 +1,7 @@
 -- Values as columns of numbers and of texts take them.
 use Rattle.std.proofs.Common.{◌≡◌, ℤ, pos, ℕ, List, Bool, true, false, if◌then◌else◌, Bor, Option, Some, None, refl}
 use Rattle.sqlite.specs.declared.types.Value.{Value}
-use Rattle.sqlite.specs.declared.types.Value.TheVariants.{Null, Int, Text as Words}
+use Rattle.sqlite.specs.declared.types.Value.TheVariants.{Int, Text as Words}
 use Rattle.sqlite.specs.Values.{or_null, bound_value}
 use Rattle.sqlite.specs.Kind.TheVariants.{Integer, Text}
 use Rattle.sqlite.specs.Cast.{cast}

@@ -1,8 +1,7 @@
 -- What a write does, for any schema.
-use Rattle.std.proofs.Common.{◌≡◌, ◌≢◌, IsTrue, ◌⊎◌, inl, inr, ℕ, ◌/◌, ℤ, List, [], length, fold, slice_get, Bool, true, false, cond, if◌then◌else◌, Some, None, Ok, Err, Result, refl, ap, subst, ◌∙◌, Option}
+use Rattle.std.proofs.Common.{◌≡◌, ◌≢◌, IsTrue, ◌⊎◌, inl, inr, ℕ, ◌/◌, ℤ, List, [], length, fold, slice_get, false, if◌then◌else◌, Some, None, Ok, Err, Result, refl, ap, subst, ◌∙◌, Option}
 use Rattle.std.specs.Ordering.{int_cmp, is_lt}
 use Rattle.std.proofs.lemmas.Bool.{cases_Bool}
-use Rattle.sqlite.specs.declared.types.Value.{Value}
 use Rattle.sqlite.specs.Order.{Row}
 use Rattle.sqlite.specs.Term.{Term}
 use Rattle.sqlite.specs.Table.{Table}

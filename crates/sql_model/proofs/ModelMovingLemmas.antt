@@ -35,22 +35,22 @@ use Rattle.sql_model.proofs.FlatChanges.{HoldAll, both_read, flat_held, some_is}
 pub presence_same : (meeting : Value) (cells : Row) → presence_in (in_first_session (meeting ∷ cells)) ≡ presence_before_sessions_in (meeting ∷ cells)
 unfolding presence_before_sessions_in presence_in parsed_in moment_in
 presence_same meeting cells =
-    let of = λ (m : List ℕ) (r : ℕ × (List ℕ × ℕ)). record { meeting = m; item = presence_of r } in
+    let of : List ℕ → ℕ × (List ℕ × ℕ) → InMeeting PresenceMark = λ m r. record { meeting = m; item = presence_of r } in
     in_first (parsed_of meeting_of meeting) (parsed_of party_of (column cells 0)) (moment_value (column cells 1)) of
 
 pub demand_same : (meeting : Value) (cells : Row) → demand_mark_in (in_first_session (meeting ∷ cells)) ≡ demand_before_sessions_in (meeting ∷ cells)
 unfolding demand_before_sessions_in demand_mark_in parsed_in moment_in number_in
 demand_same meeting cells =
-    let of = λ (m : List ℕ) (r : ℕ × (ℕ × (List ℕ × ℕ))). record { meeting = m; item = demand_mark_of r } in
+    let of : List ℕ → ℕ × (ℕ × (List ℕ × ℕ)) → InMeeting DemandMark = λ m r. record { meeting = m; item = demand_mark_of r } in
     three_in_first (parsed_of meeting_of meeting) (natural_value (column cells 0)) (parsed_of party_of (column cells 1)) (moment_value (column cells 2)) of
 
 pub presence_moved : (cells : Row) (x : InMeeting PresenceMark) → presence_before_sessions_in cells ≡ Some x → presence_in (in_first_session cells) ≡ Some x
-unfolding presence_before_sessions_in
+unfolding presence_before_sessions_in parsed_in
 presence_moved [] x h = absurd cc
 presence_moved (meeting ∷ cells) x h = presence_same meeting cells ∙ h
 
 pub demand_moved : (cells : Row) (x : InMeeting DemandMark) → demand_before_sessions_in cells ≡ Some x → demand_mark_in (in_first_session cells) ≡ Some x
-unfolding demand_before_sessions_in
+unfolding demand_before_sessions_in parsed_in
 demand_moved [] x h = absurd cc
 demand_moved (meeting ∷ cells) x h = demand_same meeting cells ∙ h
 

@@ -1,5 +1,5 @@
 -- The row that is added with a meeting and the parts of a record.
-use Rattle.std.proofs.Common.{◌≡◌, ℕ, ◌+◌, List, [], ◌∷◌, ◌++◌, Bool, true, false, Option, Some, if◌then◌else◌, map, refl, sym, ap, subst, ◌∙◌}
+use Rattle.std.proofs.Common.{◌≡◌, ℕ, List, [], ◌∷◌, ◌++◌, Bool, true, false, Option, Some, if◌then◌else◌, map, refl, sym, ap, subst, ◌∙◌}
 use Rattle.std.proofs.lemmas.List.{append-nil}
 use Rattle.sqlite.specs.Cast.{cast}
 use Rattle.sqlite.specs.Kind.{Kind}
@@ -34,7 +34,7 @@ whole v w f g l m p q r = rw (p, q, r) refl
 in_meeting_of : {P A : Type 0} (means : Row → ℕ → Option P) (of : P → A) (cells : Row) (meeting : List ℕ) (parts : P) → (meeting_at ▸ means) cells 0 ≡ Some (meeting, parts) → in_meeting means of cells ≡ Some (record { meeting = meeting; item = of parts })
 in_meeting_of means of cells meeting parts h = rw h refl
 
-module _ {P A : Type 0} {it : Stands (InMeeting A)} {kinds : List Kind} {means : Row → ℕ → Option P} {of : P → A} (filed : IsFiled it kinds (in_meeting means of)) where
+module _ {P A : Type 0} {it : Stands (InMeeting A)} {kinds : List Kind} (means : Row → ℕ → Option P) (of : P → A) (filed : IsFiled it kinds (in_meeting means of)) where
   is_row : (meeting : List ℕ) (parts : P) (values : Row) → Stay kinds values → (meeting_at ▸ means) values 0 ≡ Some (meeting, parts) → IsRowOf it.table it.declared (record { meeting = meeting; item = of parts }) values
   is_row meeting parts values stay is =
       let keeps = of_each kinds (KeepsValues it.table it.declared kinds) values filed.keeps stay in
