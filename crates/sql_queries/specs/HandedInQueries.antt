@@ -88,7 +88,9 @@ names_ending : (cells : Row) (x : InMeeting Ending)
     → (parsed_in meeting_of cells 0 ≡ Some x.meeting)
     × (parsed_in party_of cells 1 ≡ Some x.item.member)
 unfolding ending_in parsed_in number_in
-names_ending cells = of_parts (party_at ▸ number_at ▸ moment_at) ending_of (λ y. (parsed_in meeting_of cells 0 ≡ Some y.meeting) × (parsed_in party_of cells 1 ≡ Some y.item.member)) cells (λ meeting parts is there. (is, (both_there _ _ parts there).0))
+names_ending cells x h =
+    of_parts (party_at ▸ number_at ▸ moment_at) ending_of _ cells
+    (λ meeting parts is there. (is, (both_there _ _ parts there).0)) x h
 
 pub ending_made_by
     : FindsBy endings endings_table both_tests HoldParty (0 ∷ 1 ∷ [])
@@ -121,7 +123,11 @@ names_authority : (cells : Row) (x : InMeeting Authority)
     × (parsed_in party_of cells 1 ≡ Some x.item.corporation)
     × (parsed_in party_of cells 2 ≡ Some x.item.person)
 unfolding authority_in parsed_in number_in
-names_authority cells = of_parts (party_at ▸ party_at ▸ moment_at) authority_of (λ y. (parsed_in meeting_of cells 0 ≡ Some y.meeting) × (parsed_in party_of cells 1 ≡ Some y.item.corporation) × (parsed_in party_of cells 2 ≡ Some y.item.person)) cells (λ meeting parts is there. let first = both_there _ _ parts there in (is, first.0, (both_there _ _ parts.1 first.1).0))
+names_authority cells x h =
+    of_parts (party_at ▸ party_at ▸ moment_at) authority_of _ cells
+    (λ meeting parts is there.
+      let first = both_there _ _ parts there in
+      (is, first.0, (both_there _ _ parts.1 first.1).0)) x h
 
 pub authority_given_by
     : FindsBy authorities authorities_table both_tests HoldParty (0 ∷ 1 ∷ [])

@@ -27,7 +27,11 @@ names_presence : (cells : Row) (x : InMeeting PresenceMark)
     → (parsed_in meeting_of cells 0 ≡ Some x.meeting)
     × (parsed_in party_of cells 2 ≡ Some x.item.party)
 unfolding presence_in parsed_in number_in
-names_presence cells = of_parts (number_at ▸ party_at ▸ moment_at) presence_of (λ y. (parsed_in meeting_of cells 0 ≡ Some y.meeting) × (parsed_in party_of cells 2 ≡ Some y.item.party)) cells (λ meeting parts is there. (is, (both_there _ _ parts.1 (both_there _ _ parts there).1).0))
+names_presence cells x h =
+    of_parts (number_at ▸ party_at ▸ moment_at) presence_of _ cells
+    (λ meeting parts is there.
+      let later = both_there _ _ parts there in
+      (is, (both_there _ _ parts.1 later.1).0)) x h
 
 pub presence_of_party
     : FindsBy presences presences_table both_tests HoldParty (0 ∷ 2 ∷ [])
@@ -59,7 +63,11 @@ names_demand : (cells : Row) (x : InMeeting DemandMark)
     → (parsed_in meeting_of cells 0 ≡ Some x.meeting)
     × (parsed_in party_of cells 3 ≡ Some x.item.party)
 unfolding demand_mark_in parsed_in number_in
-names_demand cells = of_parts (number_at ▸ number_at ▸ party_at ▸ moment_at) demand_mark_of (λ y. (parsed_in meeting_of cells 0 ≡ Some y.meeting) × (parsed_in party_of cells 3 ≡ Some y.item.party)) cells (λ meeting parts is there. let later = both_there _ _ parts.1 (both_there _ _ parts there).1 in (is, (both_there _ _ parts.1.1 later.1).0))
+names_demand cells x h =
+    of_parts (number_at ▸ number_at ▸ party_at ▸ moment_at) demand_mark_of _ cells
+    (λ meeting parts is there.
+      let later = both_there _ _ parts.1 (both_there _ _ parts there).1 in
+      (is, (both_there _ _ parts.1.1 later.1).0)) x h
 
 pub demand_made_by
     : FindsBy demands demands_table both_tests HoldParty (0 ∷ 3 ∷ [])

@@ -56,8 +56,8 @@ pub record EmptiesTable {A : Type 0} (it : TableOf A) (declared : Table) : Type 
 
 -- ---- a table that is made, shown and added to
 
--- what it stands on: how it is declared, what its rows mean, what is declared before it is made, and
--- the text that makes it
+-- what it stands on: how it is declared, what its rows mean, what is declared before it, and the
+-- text that makes it
 pub record Stands (A : Type 0) : Type 0 where
   pub declared : Table
   pub table : TableOf A
