@@ -126,8 +126,8 @@ unfolding authority_in parsed_in number_in
 names_authority cells x h =
     of_parts (party_at ▸ party_at ▸ moment_at) authority_of _ cells
     (λ meeting parts is there.
-      let first = both_there _ _ parts there in
-      (is, first.0, (both_there _ _ parts.1 first.1).0)) x h
+    let first = both_there _ _ parts there in
+    (is, first.0, (both_there _ _ parts.1 first.1).0)) x h
 
 pub authority_given_by
     : FindsBy authorities authorities_table both_tests HoldParty (0 ∷ 1 ∷ [])

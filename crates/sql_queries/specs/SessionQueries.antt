@@ -30,8 +30,8 @@ unfolding presence_in parsed_in number_in
 names_presence cells x h =
     of_parts (number_at ▸ party_at ▸ moment_at) presence_of _ cells
     (λ meeting parts is there.
-      let later = both_there _ _ parts there in
-      (is, (both_there _ _ parts.1 later.1).0)) x h
+    let later = both_there _ _ parts there in
+    (is, (both_there _ _ parts.1 later.1).0)) x h
 
 pub presence_of_party
     : FindsBy presences presences_table both_tests HoldParty (0 ∷ 2 ∷ [])
@@ -66,8 +66,8 @@ unfolding demand_mark_in parsed_in number_in
 names_demand cells x h =
     of_parts (number_at ▸ number_at ▸ party_at ▸ moment_at) demand_mark_of _ cells
     (λ meeting parts is there.
-      let later = both_there _ _ parts.1 (both_there _ _ parts there).1 in
-      (is, (both_there _ _ parts.1.1 later.1).0)) x h
+    let later = both_there _ _ parts.1 (both_there _ _ parts there).1 in
+    (is, (both_there _ _ parts.1.1 later.1).0)) x h
 
 pub demand_made_by
     : FindsBy demands demands_table both_tests HoldParty (0 ∷ 3 ∷ [])
