@@ -83,14 +83,16 @@ appointments_of_meeting = record {
 -- ---- the endings of appointments
 
 -- what a row names
-names_ending : (cells : Row) (x : InMeeting Ending)
-    → ending_in cells ≡ Some x
-    → (parsed_in meeting_of cells 0 ≡ Some x.meeting)
+abbrev NamesEnding : Row → InMeeting Ending → Type 0
+NamesEnding cells x =
+    (parsed_in meeting_of cells 0 ≡ Some x.meeting)
     × (parsed_in party_of cells 1 ≡ Some x.item.member)
-unfolding ending_in parsed_in number_in
-names_ending cells x h =
-    of_parts (party_at ▸ number_at ▸ moment_at) ending_of _ cells
-    (λ meeting parts is there. (is, (both_there _ _ parts there).0)) x h
+
+names_ending : (cells : Row) (x : InMeeting Ending) → ending_in cells ≡ Some x → NamesEnding cells x
+unfolding ending_in parsed_in
+names_ending cells =
+    of_parts (party_at ▸ number_at ▸ moment_at) ending_of (NamesEnding cells) cells
+    (λ meeting parts is there. (is, (both_there _ _ parts there).0))
 
 pub ending_made_by
     : FindsBy endings endings_table both_tests HoldParty (0 ∷ 1 ∷ [])
@@ -117,17 +119,20 @@ endings_of_meeting = record {
 -- ---- the authorities of representatives
 
 -- what a row names
-names_authority : (cells : Row) (x : InMeeting Authority)
-    → authority_in cells ≡ Some x
-    → (parsed_in meeting_of cells 0 ≡ Some x.meeting)
+abbrev NamesAuthority : Row → InMeeting Authority → Type 0
+NamesAuthority cells x =
+    (parsed_in meeting_of cells 0 ≡ Some x.meeting)
     × (parsed_in party_of cells 1 ≡ Some x.item.corporation)
     × (parsed_in party_of cells 2 ≡ Some x.item.person)
-unfolding authority_in parsed_in number_in
-names_authority cells x h =
-    of_parts (party_at ▸ party_at ▸ moment_at) authority_of _ cells
+
+names_authority : (cells : Row) (x : InMeeting Authority) → authority_in cells ≡ Some x
+    → NamesAuthority cells x
+unfolding authority_in parsed_in
+names_authority cells =
+    of_parts (party_at ▸ party_at ▸ moment_at) authority_of (NamesAuthority cells) cells
     (λ meeting parts is there.
     let first = both_there _ _ parts there in
-    (is, first.0, (both_there _ _ parts.1 first.1).0)) x h
+    (is, first.0, (both_there _ _ parts.1 first.1).0))
 
 pub authority_given_by
     : FindsBy authorities authorities_table both_tests HoldParty (0 ∷ 1 ∷ [])

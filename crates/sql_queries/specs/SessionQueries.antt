@@ -22,16 +22,19 @@ use Rattle.vocabulary.specs.Names.{meeting_of, party_of}
 -- ---- the presences
 
 -- what a row names
-names_presence : (cells : Row) (x : InMeeting PresenceMark)
-    → presence_in cells ≡ Some x
-    → (parsed_in meeting_of cells 0 ≡ Some x.meeting)
+abbrev NamesPresence : Row → InMeeting PresenceMark → Type 0
+NamesPresence cells x =
+    (parsed_in meeting_of cells 0 ≡ Some x.meeting)
     × (parsed_in party_of cells 2 ≡ Some x.item.party)
-unfolding presence_in parsed_in number_in
-names_presence cells x h =
-    of_parts (number_at ▸ party_at ▸ moment_at) presence_of _ cells
+
+names_presence : (cells : Row) (x : InMeeting PresenceMark) → presence_in cells ≡ Some x
+    → NamesPresence cells x
+unfolding presence_in parsed_in
+names_presence cells =
+    of_parts (number_at ▸ party_at ▸ moment_at) presence_of (NamesPresence cells) cells
     (λ meeting parts is there.
     let later = both_there _ _ parts there in
-    (is, (both_there _ _ parts.1 later.1).0)) x h
+    (is, (both_there _ _ parts.1 later.1).0))
 
 pub presence_of_party
     : FindsBy presences presences_table both_tests HoldParty (0 ∷ 2 ∷ [])
@@ -58,16 +61,19 @@ presences_of_meeting = record {
 -- ---- the demands of polls
 
 -- what a row names
-names_demand : (cells : Row) (x : InMeeting DemandMark)
-    → demand_mark_in cells ≡ Some x
-    → (parsed_in meeting_of cells 0 ≡ Some x.meeting)
+abbrev NamesDemand : Row → InMeeting DemandMark → Type 0
+NamesDemand cells x =
+    (parsed_in meeting_of cells 0 ≡ Some x.meeting)
     × (parsed_in party_of cells 3 ≡ Some x.item.party)
-unfolding demand_mark_in parsed_in number_in
-names_demand cells x h =
-    of_parts (number_at ▸ number_at ▸ party_at ▸ moment_at) demand_mark_of _ cells
+
+names_demand : (cells : Row) (x : InMeeting DemandMark) → demand_mark_in cells ≡ Some x
+    → NamesDemand cells x
+unfolding demand_mark_in parsed_in
+names_demand cells =
+    of_parts (number_at ▸ number_at ▸ party_at ▸ moment_at) demand_mark_of (NamesDemand cells) cells
     (λ meeting parts is there.
     let later = both_there _ _ parts.1 (both_there _ _ parts there).1 in
-    (is, (both_there _ _ parts.1.1 later.1).0)) x h
+    (is, (both_there _ _ parts.1.1 later.1).0))
 
 pub demand_made_by
     : FindsBy demands demands_table both_tests HoldParty (0 ∷ 3 ∷ [])
