@@ -3,6 +3,7 @@ use Rattle.desk_words.specs.declared.records.Authority.{Authority}
 use Rattle.party_views.specs.Views.{meeting_at}
 use Rattle.proxy_rules.specs.Parties.{authorises, is_authority_of}
 use Rattle.row_source.specs.LookUps.{authorities_in}
+use Rattle.sql_rows.specs.AppointmentRows.{authority_in}
 use Rattle.sql_schema.specs.Contents as table
 use Rattle.sql_model.proofs.ListChanges.{list_of}
 use Rattle.sql_model.proofs.Names.ListName.{Authorities}
@@ -11,6 +12,7 @@ use Rattle.sql_load_party.proofs.LoadedPartyRowLemmas.{both_pass}
 use Rattle.sql_load_party.proofs.look_ups.trusting_for.Goals as goal
 
 pub returns-clause-holds : goal.returns-clause-holds
+unfolding authority_in
 returns-clause-holds g c =
     items_returned g.S.Store c.args.tx.now.conn.now c.find.new.tx.conn.now (λ v. v.items) table.authorities (λ flat. flat.authorities) (λ trees flat held. held.authorities) _ c.find.result c.find.ensures.rows c.find.ensures.changes
     c.records_found.result c.records_found.ensures c.items.result c.items.ensures _
