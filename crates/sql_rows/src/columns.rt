@@ -120,9 +120,11 @@ pub trait MeetingRecord: Sized + Drop {
     // What is made of the columns.
     ghost of: { Self.Parts → Self };
 
+    /// The record that is made of what its columns hold.
     fn of(parts: Self::Parts) -> Self
         ensures { result ≡ of parts };
 
+    /// What its columns hold.
     fn parts(&self) -> Self::Parts
         ensures { of result ≡ self.now };
 

@@ -1,6 +1,6 @@
 //! What the rows of the desk's tables mean: the records of an office, each with the meeting that
-//! its row names. Words, names and texts are kept as texts, moments and days as numbers counted
-//! from 1970.
+//! its row names; and what is written into their columns. Words, names and texts are kept as texts,
+//! moments and days as numbers counted from 1970.
 #![tactic(auto)]
 
 mod calls;
