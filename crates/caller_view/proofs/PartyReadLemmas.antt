@@ -1,10 +1,9 @@
 -- The answer to a request reads no more of the party's own things than is said.
-use Rattle.std.proofs.Common.{◌≡◌, ℕ, Bool, true, false, not, ◌&&◌, ◌||◌, cond, List, [], ◌∷◌, filter, map, length, Some, None, refl, sym, ap, subst, ◌∙◌}
-use Rattle.std.specs.Prelude.{◌==◌, Option, count_by, is_none, is_some, nat_le, nat_lt}
+use Rattle.std.proofs.Common.{◌≡◌, ℕ, Bool, true, false, not, ◌&&◌, ◌||◌, cond, List, [], ◌∷◌, filter, map, Some, None, refl, sym, ap, subst, ◌∙◌}
+use Rattle.std.specs.Prelude.{◌==◌, Option, is_none, is_some, nat_le, nat_lt}
 use Rattle.std.specs.List.{list_any}
 use Rattle.std.specs.Option.{option_map_or}
-use Rattle.std.proofs.lemmas.Bool.{eqb-true}
-use Rattle.std.proofs.lemmas.List.Sums.{length-filter}
+use Rattle.std.proofs.lemmas.Bool.{eq-eqb, eqb-true}
 use Rattle.seq.proofs.Filtered.{found-passes}
 use Rattle.vocabulary.specs.Names.{same_name}
 use Rattle.vocabulary.specs.Places.{Places, holds, is_range}
@@ -20,7 +19,6 @@ use Rattle.desk_words.specs.Sessions.{is_opened, last_number, last_session}
 use Rattle.desk_words.specs.declared.own_things.Authorised.{Authorised}
 use Rattle.desk_words.specs.declared.own_things.PollGoverned.{PollGoverned}
 use Rattle.desk_words.specs.declared.own_things.Received.{Received}
-use Rattle.desk_words.specs.declared.records.CastMark.{CastMark}
 use Rattle.desk_words.specs.declared.records.Meeting.{Meeting}
 use Rattle.desk_words.specs.declared.records.Poll.{Poll}
 use Rattle.desk_words.specs.declared.request.NewCast.{NewCast}
@@ -28,29 +26,27 @@ use Rattle.desk_words.specs.declared.request.PartyRequest.{PartyRequest}
 use Rattle.desk_words.specs.declared.request.PartyRequest.TheVariants.{Mine, Demand, Cast, Instructed}
 use Rattle.caller_view.specs.PartyRulings.{party_ruling, ruling_for}
 use Rattle.caller_view.specs.AttendanceRulings.{demand_ruling, governs_any, is_present, represents}
-use Rattle.caller_view.specs.CastRulings.{cast_ruling, cast_count, governed_on, has_cast_enough, instructed_ruling}
+use Rattle.caller_view.specs.CastRulings.{cast_ruling, governed_on, has_cast_enough, instructed_ruling}
 use Rattle.proxy_rules.specs.Cutoffs.{is_late_poll}
 use Rattle.proxy_rules.specs.Instructions.{allows, instructed_on}
 use Rattle.proxy_rules.specs.Uses.{vote_on}
 use Rattle.party_views.proofs.FindLemmas.{find-filter}
-use Rattle.party_views.specs.RowsRead.{authorised_read, cast_on, for_poll, is_instructed_by, own_read, received_read, row_read}
+use Rattle.party_views.specs.OwnCasts.{count_on, counted_on}
+use Rattle.party_views.specs.declared.own_rows.OwnCasts.{OwnCasts}
+use Rattle.party_views.specs.RowsRead.{authorised_read, for_poll, is_instructed_by, own_read, received_read, row_read}
 use Rattle.caller_view.specs.Rights.{forbids, governed_acts, governed_for, governed_late, governed_votes, governs_at, instructs, is_against, is_governed, is_not_own, may_vote_for, meets, no_runs, some_fail}
 use Rattle.party_views.specs.OwnViews.{holds_as_individual, nothing_of}
 use Rattle.party_views.specs.declared.views.OwnView.{OwnView}
 use Rattle.party_views.specs.Public.{PublicRecord}
 
 -- what passes a test passes it again
-filter-again : {X : Type 0} (test : X → Bool) (xs : List X) → filter test (filter test xs) ≡ filter test xs
+pub filter-again : {X : Type 0} (test : X → Bool) (xs : List X) → filter test (filter test xs) ≡ filter test xs
 filter-again test [] = refl
 filter-again test (x ∷ xs) =
     (elim (test x) as (λ b. test x ≡ b → filter test (cond b (x ∷ filter test xs) (filter test xs)) ≡ cond b (x ∷ filter test xs) (filter test xs)) [
       | true ↦ λ passes. ap (λ b. cond b (x ∷ filter test (filter test xs)) (filter test (filter test xs))) passes ∙ ap (λ l. x ∷ l) (filter-again test xs)
       | false ↦ λ fails. filter-again test xs
     ]) refl
-
--- among what passes a test as many pass it
-count_by-filter : {X : Type 0} (test : X → Bool) (xs : List X) → count_by test (filter test xs) ≡ count_by test xs
-count_by-filter test xs = sym (length-filter test (filter test xs)) ∙ ap length (filter-again test xs) ∙ length-filter test xs
 
 -- some pass among those that are kept, where all that pass are kept
 any-filter : {X : Type 0} (keeps passes : X → Bool) (xs : List X) → ((x : X) → (keeps x && passes x) ≡ passes x) → list_any passes (filter keeps xs) ≡ list_any passes xs
@@ -102,7 +98,7 @@ any-read new passes received alike members =
     any-map passes (for_poll new.resolution) (filter (λ (r : Received). same_name r.member new.member) received) alike
     ∙ any-filter (λ (r : Received). same_name r.member new.member) passes received members
 
-may-alike : (own : OwnView) (new : NewCast) (capacity : Capacity) (casts : List CastMark)
+may-alike : (own : OwnView) (new : NewCast) (capacity : Capacity) (casts : OwnCasts)
     → may_vote_for (record (nothing_of own.party) { row = row_read own.row capacity; received = received_read new own.received capacity; authorised = authorised_read new own.authorised capacity; casts = casts }) new.member capacity
     ≡ may_vote_for own new.member capacity
 may-alike own new Member casts = refl
@@ -124,7 +120,7 @@ module _ (public : PublicRecord) (meeting : Meeting) where
   instructs-alike : (resolution : ℕ) (r : Received) → instructs (governed_on public meeting resolution) resolution (for_poll resolution r) ≡ instructs (governed_on public meeting resolution) resolution r
   instructs-alike resolution r = ap (λ runs. is_some (instructed_on resolution r.instructions) && not (no_runs runs)) (governed-alike resolution r)
 
-  own-alike : (own : OwnView) (new : NewCast) (capacity : Capacity) (casts : List CastMark)
+  own-alike : (own : OwnView) (new : NewCast) (capacity : Capacity) (casts : OwnCasts)
       → is_not_own (record (nothing_of own.party) { row = row_read own.row capacity; received = received_read new own.received capacity; authorised = authorised_read new own.authorised capacity; casts = casts }) (governed_on public meeting new.resolution) new capacity
       ≡ is_not_own own (governed_on public meeting new.resolution) new capacity
   own-alike own new Member casts = refl
@@ -135,7 +131,7 @@ module _ (public : PublicRecord) (meeting : Meeting) where
       (λ r. and-again (same_name r.member new.member) (list_any (λ (run : Places). holds run place) (governed_on public meeting new.resolution r))) in
       λ i. some_fail (λ place. governed place i) new.from new.to
 
-  against-alike : (own : OwnView) (new : NewCast) (capacity : Capacity) (casts : List CastMark)
+  against-alike : (own : OwnView) (new : NewCast) (capacity : Capacity) (casts : OwnCasts)
       → is_against (record (nothing_of own.party) { row = row_read own.row capacity; received = received_read new own.received capacity; authorised = authorised_read new own.authorised capacity; casts = casts }) (governed_on public meeting new.resolution) new capacity
       ≡ is_against own (governed_on public meeting new.resolution) new capacity
   against-alike own new Member casts = refl
@@ -145,8 +141,9 @@ module _ (public : PublicRecord) (meeting : Meeting) where
       (λ r. and-twice (same_name r.member new.member) (not (allows (instructed_on new.resolution r.instructions) new.way))
       (list_any (meets new.from new.to) (governed_on public meeting new.resolution r)))
 
-enough-alike : (own : OwnView) (resolution : ℕ) → nat_le MOST_CASTS (cast_count (cast_on resolution own.casts) resolution) ≡ has_cast_enough own resolution
-enough-alike own resolution = ap (nat_le MOST_CASTS) (count_by-filter (λ (c : CastMark). c.resolution == resolution) own.casts)
+-- the votes that were counted on a resolution are as many there
+enough-alike : (own : OwnView) (resolution : ℕ) → nat_le MOST_CASTS (count_on (counted_on resolution own.casts) resolution) ≡ has_cast_enough own resolution
+enough-alike own resolution = ap (λ b. nat_le MOST_CASTS (cond b (count_on own.casts resolution) 0)) (eq-eqb resolution resolution refl)
 
 -- the cases of a vote, by what they ask of the own things
 abbrev cast_cases_by : PublicRecord → Meeting → NewCast → Bool → Bool → Bool → Bool → List Case
@@ -167,7 +164,7 @@ cast_cases_by public meeting new enough may not_own against =
 cast-alike : (public : PublicRecord) (meeting : Meeting) (own : OwnView) (now : ℕ) (new : NewCast)
     → cast_ruling public meeting (own_read (Cast new) own) now new ≡ cast_ruling public meeting own now new
 cast-alike public meeting own now new =
-    let casts = cast_on new.resolution own.casts in
+    let casts = counted_on new.resolution own.casts in
     λ i. record {
       cases = cast_cases_by public meeting new (enough-alike own new.resolution i) (may-alike own new new.capacity casts i)
           (own-alike public meeting own new new.capacity casts i) (against-alike public meeting own new new.capacity casts i);

@@ -1,5 +1,5 @@
 -- Votes that a party casts.
-use Rattle.std.specs.Prelude.{ℕ, Bool, not, ◌==◌, nat_le, List, [], ◌∷◌, count_by, Some, is_none}
+use Rattle.std.specs.Prelude.{Bool, not, nat_le, List, [], ◌∷◌, Some, is_none}
 use Rattle.desk_words.specs.Finding.{poll_on}
 use Rattle.desk_words.specs.Places.{is_range}
 use Rattle.desk_words.specs.PollStates.{is_closed, is_waiting, there_is}
@@ -19,16 +19,13 @@ use Rattle.desk_words.specs.declared.reply.Reply.TheVariants as reply
 use Rattle.desk_words.specs.declared.request.NewCast.{NewCast}
 use Rattle.proxy_rules.specs.Uses.{Use, vote_on}
 use Rattle.caller_view.specs.Rights.{Governs, governed_for, is_against, is_not_own, is_uninstructed, may_vote_for}
+use Rattle.party_views.specs.OwnCasts.{count_on}
 use Rattle.party_views.specs.declared.views.OwnView.{OwnView}
 use Rattle.party_views.specs.Public.{PublicRecord}
 
--- how many of these votes are on a resolution
-abbrev pub cast_count : List CastMark → Number → ℕ
-cast_count casts resolution = count_by (λ (c : CastMark). c.resolution == resolution) casts
-
 -- the party cast `MOST_CASTS` votes on the resolution, in all capacities together
 abbrev pub has_cast_enough : OwnView → Number → Bool
-has_cast_enough own resolution = nat_le MOST_CASTS (cast_count own.casts resolution)
+has_cast_enough own resolution = nat_le MOST_CASTS (count_on own.casts resolution)
 
 -- the use of appointments for votes on a resolution: for those on its poll, or, where there is
 -- none, for those in the last session (section 327)

@@ -13,6 +13,7 @@ use Rattle.caller_view.specs.AppointmentRulings.{appoint_ruling, cutoff_in, end_
 use Rattle.caller_view.specs.AttendanceRulings.{attend_ruling, authorise_ruling, demand_ruling}
 use Rattle.caller_view.specs.CastRulings.{cast_ruling, instructed_ruling}
 use Rattle.caller_view.specs.Notices.{notice_of}
+use Rattle.party_views.specs.OwnCasts.{all_casts}
 use Rattle.party_views.specs.Public.{PublicRecord}
 use Rattle.party_views.specs.declared.views.OwnView.{OwnView}
 
@@ -28,7 +29,7 @@ mine_of public meeting own now = record {
   session = last_number meeting;
   presences = own.presences;
   demands = own.demands;
-  casts = own.casts;
+  casts = all_casts own.casts;
 }
 
 -- what decides a party's request in a meeting, from what the party may see and the moment

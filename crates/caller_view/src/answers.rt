@@ -87,7 +87,7 @@ fn mine(
         session: meeting.last_number(),
         presences: own.presences,
         demands: own.demands,
-        casts: own.casts,
+        casts: own.casts.into_all(alloc),
     })
 }
 

@@ -4,7 +4,7 @@ ghost use Rattle.desk_words.specs.Refusals.{first_refusal};
 ghost use Rattle.desk_words.specs.Rulings.{ruled_answer};
 ghost use Rattle.desk_words.specs.declared.change.Entry.TheVariants as entry;
 ghost use Rattle.desk_words.specs.declared.reply.Reply.TheVariants as reply;
-ghost use Rattle.caller_view.specs.CastRulings.{block_of, cast_of, cast_range_cases, cast_ruling, cast_count, has_cast_enough, instructed_cases, instructed_ruling, right_cases};
+ghost use Rattle.caller_view.specs.CastRulings.{block_of, cast_of, cast_range_cases, cast_ruling, has_cast_enough, instructed_cases, instructed_ruling, right_cases};
 ghost use Rattle.caller_view.specs.Rights.{governed_at_poll};
 
 use crate::rights::{is_against, is_not_own, is_uninstructed, may_vote_for};
@@ -16,16 +16,10 @@ use desk_words::{
 use party_views::{OwnView, PublicRecord};
 use proxy_rules::is_late_poll;
 
-fn cast_count(casts: &[CastMark], resolution: u64) -> usize
-    ensures { result ≡ cast_count casts.now resolution }
-{
-    casts.iter().filter(|c| c.resolution == resolution).count()
-}
-
 fn has_cast_enough(own: &OwnView, resolution: u64) -> bool
     ensures { result ≡ has_cast_enough own.now resolution }
 {
-    cast_count(own.casts.as_slice(), resolution) >= MOST_CASTS
+    own.casts.count_on(resolution) >= MOST_CASTS
 }
 
 /// Why a vote on places is not the party's to cast on a poll, which is late or not.

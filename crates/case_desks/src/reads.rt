@@ -6,7 +6,7 @@ use desk_words::{
 };
 use json_replies::reply_text;
 use meeting_core::Book;
-use party_views::{OwnView, PublicRecord};
+use party_views::{OwnCasts, OwnView, PublicRecord};
 use std::alloc::{AllocError, Global};
 
 /// A party that may ask in a meeting at a moment.
@@ -94,6 +94,13 @@ fn are_same_received(received: &[Received], others: &[Received]) -> bool {
             .all(|(one, other)| is_same_received(one, other))
 }
 
+fn are_same_casts(casts: &OwnCasts, others: &OwnCasts) -> bool {
+    match (casts, others) {
+        (OwnCasts::All(casts), OwnCasts::All(others)) => casts.as_slice() == others.as_slice(),
+        _ => false,
+    }
+}
+
 /// Whether both are the same own things, also in what no reply tells of them.
 fn is_same_own(own: &OwnView, other: &OwnView) -> bool {
     own.party == other.party
@@ -105,7 +112,7 @@ fn is_same_own(own: &OwnView, other: &OwnView) -> bool {
         && own.authorised.as_slice() == other.authorised.as_slice()
         && own.presences.as_slice() == other.presences.as_slice()
         && own.demands.as_slice() == other.demands.as_slice()
-        && own.casts.as_slice() == other.casts.as_slice()
+        && are_same_casts(&own.casts, &other.casts)
 }
 
 fn is_same_resolution(resolution: &Resolution, other: &Resolution) -> bool {

@@ -16,7 +16,8 @@ use Rattle.desk_words.specs.ViewTypes.{Party}
 use Rattle.desk_words.specs.declared.request.PartyRequest.TheVariants.{Notice}
 use Rattle.party_views.specs.PartyRows.{no_own_rows, own_rows_in}
 use Rattle.party_views.specs.RowsRead.{own_rows_read}
-use Rattle.office_decisions.specs.ListsRead.{polls_alone}
+use Rattle.desk_words.specs.declared.request.OfficeRequest.{OfficeRequest}
+use Rattle.office_decisions.specs.ListsRead.{first_read}
 use Rattle.meeting_core.specs.Step.{decided}
 use Rattle.sql_assemble.specs.declared.fault.LoadError.{LoadError}
 use Rattle.sql_load_public.specs.TableLookUps.{HoldsOfStoredOffice}
@@ -49,11 +50,11 @@ decided_so call refusal so office preserved answer is = record {
   preserved = subst (λ (a : Answer Change). IsTrue (is_office (applied_if_any office a.change))) (sym is) preserved;
 }
 
--- the meeting whose polls were read is found in the office
-pub meeting_found : (held found : Option MeetingLists) (lists : MeetingLists) → found ≡ Some lists → found ≡ option_map polls_alone held → (m : MeetingLists) × (held ≡ Some m) × (lists ≡ polls_alone m)
-meeting_found None found lists is read = absurd (cc)
-meeting_found (Some m) found lists is read =
-    let same : ◌≡◌ {A = Option MeetingLists} (Some lists) (Some (polls_alone m)) = sym is ∙ read in
+-- the meeting of which was read first is found in the office
+pub meeting_found : (what : OfficeRequest) (held found : Option MeetingLists) (lists : MeetingLists) → found ≡ Some lists → found ≡ option_map (first_read what) held → (m : MeetingLists) × (held ≡ Some m) × (lists ≡ first_read what m)
+meeting_found what None found lists is read = absurd (cc)
+meeting_found what (Some m) found lists is read =
+    let same : ◌≡◌ {A = Option MeetingLists} (Some lists) (Some (first_read what m)) = sym is ∙ read in
     (m, refl, cc)
 
 -- a notice reads none of a party's rows

@@ -17,7 +17,7 @@ use meeting_core::{
 };
 use row_source::no_own_rows;
 use sql_desk_tables::desk;
-use sql_load_meeting::{OfficeReads, read_closed, read_count, read_keys, read_polls, read_rest};
+use sql_load_meeting::{OfficeReads, read_closed, read_count, read_first, read_keys, read_rest};
 use sql_load_office::LoadError;
 use sql_load_party::read_own_rows_for;
 use sql_load_public::read_public_for;
@@ -83,9 +83,9 @@ fn decide_for_party<S: Alter>(
     }
 }
 
-/// What is decided of what the office asks in a meeting: from the meeting and its polls, where they
-/// refuse it, and else from those of the closed days and of the meeting's other lists too that the
-/// answer reads.
+/// What is decided of what the office asks in a meeting: from what is read of the meeting first,
+/// where it is refused at once, and else from those of the closed days and of the meeting's other
+/// lists too that the answer reads.
 fn decide_for_office<S: Alter>(
     tx: &mut Transaction<'_, S>,
     alloc: Global,
@@ -97,7 +97,7 @@ fn decide_for_office<S: Alter>(
     ensures holds { HoldsOfTables S.Store tx.old.conn.now tx.new.conn.now result
         (IsDecided (office_call meeting now asked.now)) }
 {
-    let found = read_polls(tx, alloc, meeting)?;
+    let found = read_first(tx, alloc, meeting, asked)?;
     let lists = match go_on_in_meeting(found, now, asked) {
         Ok(lists) => lists,
         Err(refused) => return Ok(refused),

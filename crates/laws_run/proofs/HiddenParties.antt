@@ -1,5 +1,6 @@
 -- What parties are answered from an office without secret votes.
-use Rattle.std.proofs.Common.{true≢false, ◌≡◌, ℕ, Bool, true, false, ◌&&◌, not, cond, List, [], ◌∷◌, map, filter, refl, ap, sym, ◌∙◌, arith}
+use Rattle.std.proofs.Common.{true≢false, ◌≡◌, ℕ, Bool, true, false, ◌&&◌, not, cond, List, [], ◌∷◌, map, filter, length, refl, ap, sym, ◌∙◌, arith}
+use Rattle.std.proofs.lemmas.List.Sums.{length-filter}
 use Rattle.std.specs.Prelude.{Option, Some, None, option_map, is_none, is_some, ◌==◌}
 use Rattle.std.specs.Cmp.{first_so, second_so}
 use Rattle.std.proofs.lemmas.Bool.{eq-eqb}
@@ -40,7 +41,9 @@ use Rattle.caller_view.specs.PartyRulings.{ruling_for}
 use Rattle.caller_view.specs.AttendanceRulings.{demand_mark, is_present, own_demanded, may_demand}
 use Rattle.caller_view.specs.CastRulings.{block_of, cast_of, has_cast_enough}
 use Rattle.party_views.specs.OwnViews.{known_to_proxy, own_from, poll_governed, session_governed}
-use Rattle.party_views.specs.RowsRead.{cast_on, own_read}
+use Rattle.party_views.specs.OwnCasts.{cast_count}
+use Rattle.party_views.specs.declared.own_rows.OwnCasts.TheVariants.{All, Counted}
+use Rattle.party_views.specs.RowsRead.{own_read}
 use Rattle.caller_view.specs.Rights.{governed_for, is_against, is_not_own, is_uninstructed, may_vote_for}
 use Rattle.party_views.specs.PartyRows.{own_rows_in, own_rows}
 use Rattle.party_views.specs.SessionLists.{each_session}
@@ -165,14 +168,15 @@ others-casts secret party casts other =
 
 -- and those on another resolution are not
 casts-alike : (secret : Secret) (party : List ℕ) (number : ℕ) (casts : List CastMark) → (number == secret.resolution) ≡ false
-    → cast_on number (filter (is_cast_by party) (filter (λ (c : CastMark). not (is_secret_cast secret c)) casts)) ≡ cast_on number (filter (is_cast_by party) casts)
+    → cast_count (filter (is_cast_by party) (filter (λ (c : CastMark). not (is_secret_cast secret c)) casts)) number ≡ cast_count (filter (is_cast_by party) casts) number
 casts-alike secret party number casts other =
     let on = λ (c : CastMark). c.resolution == number in
     let open_casts = λ (c : CastMark). not (is_secret_cast secret c) in
-    filter-swap on (is_cast_by party) (filter open_casts casts)
+    let same = filter-swap on (is_cast_by party) (filter open_casts casts)
     ∙ ap (filter (is_cast_by party)) (filter-among on open_casts casts (all-of (λ c. implies (on c) (open_casts c)) casts (λ c. implied (on c) (open_casts c) (λ is.
     fails (c.resolution == secret.resolution) (secret.voters c.voter) (apart c.resolution number secret.resolution is other)))))
-    ∙ sym (filter-swap on (is_cast_by party) casts)
+    ∙ sym (filter-swap on (is_cast_by party) casts) in
+    sym (length-filter on (filter (is_cast_by party) (filter open_casts casts))) ∙ ap length same ∙ length-filter on (filter (is_cast_by party) casts)
   where
     apart : (a b c : ℕ) → (a == b) ≡ true → (b == c) ≡ false → (a == c) ≡ false
     apart a b c is other = grind (arith, nat_tests, is, other)
@@ -189,24 +193,24 @@ answer_found found closed party now what = answered (public_in found closed) (ow
 
 -- own things of a party with these votes in place of its own
 abbrev own_with : MeetingLists → List ℕ → List ℕ → ℕ → List CastMark → OwnView
-own_with m closed party now casts = own_from (record (own_rows m party) { casts = casts }) (public_in (Some m) closed) now
+own_with m closed party now casts = own_from (record (own_rows m party) { casts = All casts }) (public_in (Some m) closed) now
 
 -- what a request enters is the same where the votes are alike that it reads
 entered-with : ReadsEnough own_read → (m : MeetingLists) (closed party : List ℕ) (now : ℕ) (casts : List CastMark) (what : PartyRequest)
-    → ((number : ℕ) → is_vote_request number what ≡ true → cast_on number casts ≡ cast_on number (own_rows m party).casts)
+    → ((number : ℕ) → is_vote_request number what ≡ true → cast_count casts number ≡ cast_count (filter (is_cast_by party) m.casts) number)
     → (answered (public_in (Some m) closed) (own_with m closed party now casts) now what).change ≡ (answered (public_in (Some m) closed) (own_from (own_rows m party) (public_in (Some m) closed) now) now what).change
 entered-with enough m closed party now casts (Cast new) h =
     let public = public_in (Some m) closed in
     let own = own_from (own_rows m party) public now in
     let same = h new.resolution (eq-eqb new.resolution new.resolution refl) in
     ap (λ (a : Answer Entry). a.change)
-    (sym (enough public (own_with m closed party now casts) now (Cast new)) ∙ (λ i. answered public (record (own_read (Cast new) own) { casts = same i }) now (Cast new)) ∙ enough public own now (Cast new))
+    (sym (enough public (own_with m closed party now casts) now (Cast new)) ∙ (λ i. answered public (record (own_read (Cast new) own) { casts = Counted new.resolution (same i) }) now (Cast new)) ∙ enough public own now (Cast new))
 entered-with enough m closed party now casts (Instructed number) h =
     let public = public_in (Some m) closed in
     let own = own_from (own_rows m party) public now in
     let same = h number (eq-eqb number number refl) in
     ap (λ (a : Answer Entry). a.change)
-    (sym (enough public (own_with m closed party now casts) now (Instructed number)) ∙ (λ i. answered public (record (own_read (Instructed number) own) { casts = same i }) now (Instructed number))
+    (sym (enough public (own_with m closed party now casts) now (Instructed number)) ∙ (λ i. answered public (record (own_read (Instructed number) own) { casts = Counted number (same i) }) now (Instructed number))
     ∙ enough public own now (Instructed number))
 entered-with enough m closed party now casts what h = refl
 
@@ -227,13 +231,13 @@ entered-alike : ReadsEnough own_read → (secret : Secret) (m : MeetingLists) (c
     → (answer_found (Some (hidden_in secret m)) closed party now what).change ≡ (answer_found (Some m) closed party now what).change
 entered-alike enough secret m closed party now what none =
     let casts = filter (is_cast_by party) (filter (λ (c : CastMark). not (is_secret_cast secret c)) m.casts) in
-    let rows = record (own_rows m party) { casts = casts } in
+    let rows = record (own_rows m party) { casts = All casts } in
     ap (λ own. (answered (public_in (Some (uncounted_in secret.resolution m)) closed) own now what).change) (own-uncounted secret.resolution m closed rows now)
     ∙ entered-uncounted secret.resolution m closed (own_with m closed party now casts) now what
     ∙ entered-with enough m closed party now casts what (λ number on.
-    (elim (secret.voters party) as (λ b. secret.voters party ≡ b → (b && is_vote_request secret.resolution what) ≡ false → cast_on number casts ≡ cast_on number (own_rows m party).casts) [
+    (elim (secret.voters party) as (λ b. secret.voters party ≡ b → (b && is_vote_request secret.resolution what) ≡ false → cast_count casts number ≡ cast_count (filter (is_cast_by party) m.casts) number) [
       | true ↦ λ _ off. casts-alike secret party number m.casts (vote-apart number secret.resolution what on off)
-      | false ↦ λ other _. ap (cast_on number) (others-casts secret party m.casts other)
+      | false ↦ λ other _. ap (λ own. cast_count own number) (others-casts secret party m.casts other)
     ]) refl none)
 
 entered-same : ReadsEnough own_read → (secret : Secret) (o : OfficeLists) (party : List ℕ) (now : ℕ) (at : List ℕ) (what : PartyRequest)
@@ -304,7 +308,7 @@ rows-preserved secret o party at other =
     ∙ elim (same_name secret.meeting at) as (λ b. own_rows_in (cond b (option_map (hidden_in secret) (meeting_at o at)) (meeting_at o at)) party ≡ own_rows_in (meeting_at o at) party) [
       | true ↦ elim (meeting_at o at) as (λ found. own_rows_in (option_map (hidden_in secret) found) party ≡ own_rows_in found party) [
         | None ↦ refl
-        | Some m ↦ ap (λ casts. record (own_rows m party) { casts = casts }) (others-casts secret party m.casts other)
+        | Some m ↦ ap (λ casts. record (own_rows m party) { casts = All casts }) (others-casts secret party m.casts other)
       ]
       | false ↦ refl
     ]

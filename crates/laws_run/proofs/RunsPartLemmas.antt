@@ -23,6 +23,7 @@ use Rattle.desk_words.specs.declared.records.RegisterRow.{RegisterRow}
 use Rattle.proxy_rules.specs.Holdings.{claim_of, is_ended_of, is_given_by}
 use Rattle.proxy_rules.specs.Parties.{authorises, is_authority_of, is_cast_by, is_demanded_by, is_presence_of, names}
 use Rattle.proxy_rules.specs.Shares.{row_of, shares_of}
+use Rattle.party_views.specs.declared.own_rows.OwnCasts.TheVariants.{All}
 use Rattle.party_views.specs.PartyRows.{authority_rows_in, givers, member_in, no_own_rows, own_rows_in, own_rows}
 use Rattle.party_views.specs.Views.{meeting_at, public_of}
 use Rattle.party_views.specs.declared.own_rows.AuthorityRows.{AuthorityRows}
@@ -73,7 +74,7 @@ rows_from viewer near = record {
   authorised = map (authority_near near) (filter (authorises viewer.party) near.authorities);
   presences = near.presences;
   demands = near.demands;
-  casts = near.casts;
+  casts = All near.casts;
 }
 
 -- the appointments, endings and authorities that one who is near gave
@@ -143,7 +144,7 @@ rows-of viewer m h =
       authorised = authorised i;
       presences = near.presences;
       demands = near.demands;
-      casts = near.casts;
+      casts = All near.casts;
     }
 
 pub rows-near : (viewer : Viewer) (found : Option MeetingLists) → is_sourced_in viewer found ≡ true → rows_from viewer (near_in viewer found) ≡ own_rows_in found viewer.party

@@ -27,6 +27,7 @@ use Rattle.party_views.specs.declared.views.OwnView.{OwnView}
 use Rattle.party_views.specs.Public.{PublicRecord}
 use Rattle.meeting_core.proofs.OfficePreserved.{party_found}
 use Rattle.laws_step.specs.NamedParties.{Names, NamesOwn, in_appointment, in_authority, in_cast, in_mine, in_reply, in_row, in_view}
+use Rattle.party_views.specs.OwnCasts.{all_casts}
 use Rattle.laws_step.specs.Worlds.{party_answer}
 
 contains_front : {X : Type 0} (x : X) (xs ys : List X) → All (Contains (x ∷ (xs ++ ys))) xs
@@ -42,7 +43,7 @@ names_of_uses cutoff given = flat_map-map (λ (g : GivenUse). in_appointment g.g
 mine_named : (public : PublicRecord) (meeting : Meeting) (own : OwnView) (now : ℕ) → in_view own ≡ own.party ∷ in_mine (mine_of public meeting own now)
 mine_named public meeting own now =
     λ i. own.party ∷ (in_row own.row ++ sym (names_of_uses (cutoff_in public meeting now) own.given) i ++ flat_map in_authority own.persons
-    ++ map (λ (a : Authorised). a.corporation) own.authorised ++ map (λ (d : DemandMark). d.party) own.demands ++ flat_map in_cast own.casts
+    ++ map (λ (a : Authorised). a.corporation) own.authorised ++ map (λ (d : DemandMark). d.party) own.demands ++ flat_map in_cast (all_casts own.casts)
     ++ map (λ (r : Received). r.member) own.received)
 
 names_shown : (public : PublicRecord) (meeting : Meeting) (own : OwnView) (now : ℕ) → All (Contains (in_view own)) (in_mine (mine_of public meeting own now))

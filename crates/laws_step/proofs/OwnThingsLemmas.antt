@@ -21,6 +21,7 @@ use Rattle.proxy_rules.specs.Holdings.{claim_of, is_ended_of, is_given_by}
 use Rattle.proxy_rules.specs.Parties.{authorises, is_authority_of, is_cast_by, is_demanded_by, is_presence_of, names}
 use Rattle.proxy_rules.specs.Shares.{row_of, shares_of}
 use Rattle.proxy_rules.specs.declared.meeting_records.Cutoffs.{Cutoffs}
+use Rattle.party_views.specs.declared.own_rows.OwnCasts.TheVariants.{All}
 use Rattle.party_views.specs.OwnViews.{governed_by, known_to_proxy, nothing_of, own_from, received_by}
 use Rattle.party_views.specs.PartyRows.{authority_rows_in, givers, member_in, own_rows_in, own_rows}
 use Rattle.party_views.specs.SessionLists.{each_session}
@@ -161,7 +162,7 @@ rows-alike m party =
       authorised = authorised i;
       presences = presences i;
       demands = demands i;
-      casts = casts i;
+      casts = All (casts i);
     }
 
 -- what concerns a party tells it what the meeting tells it

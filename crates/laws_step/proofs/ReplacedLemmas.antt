@@ -25,6 +25,7 @@ use Rattle.proxy_rules.specs.Holdings.{holding_with, is_ended_of, is_given_by}
 use Rattle.proxy_rules.specs.Parties.{authorises, is_authority_of, names}
 use Rattle.proxy_rules.specs.Shares.{row_of, shares_of}
 use Rattle.proxy_rules.specs.declared.meeting_records.Cutoffs.{Cutoffs}
+use Rattle.party_views.specs.declared.own_rows.OwnCasts.TheVariants as own_casts
 use Rattle.party_views.specs.OwnViews.{authorised_in_rows, given_in, known_to_proxy, shares_in}
 use Rattle.party_views.specs.PartyRows.{authority_rows_in}
 use Rattle.party_views.specs.SessionLists.{each_session, enumerate_from}
@@ -172,7 +173,7 @@ what_is_left one other closed party now h k left =
       authorised = authorised i;
       presences = presences i;
       demands = demands i;
-      casts = casts i;
+      casts = own_casts.All (casts i);
     }
 
 -- ---- names and pence

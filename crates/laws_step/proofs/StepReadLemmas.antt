@@ -1,7 +1,8 @@
 -- What is read of the rows gives what is read of the own things.
 use Rattle.std.proofs.Common.{◌≡◌, ℕ, Bool, true, false, cond, List, [], ◌∷◌, filter, refl, ap, sym, ◌∙◌, true≢false}
-use Rattle.std.specs.Prelude.{◌==◌, Option, Some, None}
+use Rattle.std.specs.Prelude.{Option, Some, None}
 use Rattle.std.specs.Option.{option_map_or}
+use Rattle.std.proofs.lemmas.Bool.{eq-eqb}
 use Rattle.vocabulary.specs.Names.{same_name}
 use Rattle.vocabulary.specs.declared.kinds.Capacity.{Capacity}
 use Rattle.vocabulary.specs.declared.kinds.Capacity.TheVariants.{Member, Rep, Proxy}
@@ -9,7 +10,6 @@ use Rattle.desk_words.specs.Rulings.{is_refused, ruled_answer}
 use Rattle.desk_words.specs.declared.answer.Answer.{Answer}
 use Rattle.desk_words.specs.declared.change.Entry.{Entry}
 use Rattle.desk_words.specs.declared.records.Appointment.{Appointment}
-use Rattle.desk_words.specs.declared.records.CastMark.{CastMark}
 use Rattle.desk_words.specs.declared.records.RegisterRow.{RegisterRow}
 use Rattle.desk_words.specs.declared.request.NewCast.{NewCast}
 use Rattle.desk_words.specs.declared.request.PartyRequest.{PartyRequest}
@@ -18,7 +18,10 @@ use Rattle.proxy_rules.specs.Holdings.{is_given_by}
 use Rattle.caller_view.specs.PartyRulings.{party_ruling}
 use Rattle.party_views.specs.OwnViews.{holds_as_individual, nothing_of, own_by, own_from}
 use Rattle.party_views.specs.Public.{PublicRecord}
-use Rattle.party_views.specs.RowsRead.{appointments_read, authorities_read, cast_on, gave_one_of, is_instructing, members_read, own_read, polls_read, row_read, own_rows_read}
+use Rattle.party_views.specs.OwnCasts.{count_on, counted_on}
+use Rattle.party_views.specs.declared.own_rows.OwnCasts.{OwnCasts}
+use Rattle.party_views.specs.declared.own_rows.OwnCasts.TheVariants.{Counted}
+use Rattle.party_views.specs.RowsRead.{appointments_read, authorities_read, gave_one_of, is_instructing, members_read, own_read, polls_read, row_read, own_rows_read}
 use Rattle.party_views.specs.PartyRows.{no_own_rows, own_rows_in}
 use Rattle.party_views.specs.Views.{own_in, public_in, meeting_at}
 use Rattle.party_views.specs.declared.own_rows.AuthorityRows.{AuthorityRows}
@@ -54,8 +57,8 @@ authorities-again : (new : NewCast) (authorised : List AuthorityRows) (capacity 
 authorities-again new authorised Rep = filter-again (λ (rows : AuthorityRows). same_name rows.authority.corporation new.member) authorised
 authorities-again new authorised other = refl
 
-casts-again : (resolution : ℕ) (casts : List CastMark) → cast_on resolution (cast_on resolution casts) ≡ cast_on resolution casts
-casts-again resolution casts = filter-again (λ (c : CastMark). c.resolution == resolution) casts
+casts-again : (resolution : ℕ) (casts : OwnCasts) → counted_on resolution (counted_on resolution casts) ≡ counted_on resolution casts
+casts-again resolution casts = ap (λ b. Counted resolution (cond b (count_on casts resolution) 0)) (eq-eqb resolution resolution refl)
 
 row-again : (row : Option RegisterRow) (capacity : Capacity) → row_read (row_read row capacity) capacity ≡ row_read row capacity
 row-again row Member = refl

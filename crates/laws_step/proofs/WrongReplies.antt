@@ -1,6 +1,7 @@
 -- What is wrong with wrong tellings of own things is caught.
 use Rattle.std.proofs.Common.{◌≡◌, [], ◌∷◌, length, refl, ap, arith}
 use Rattle.desk_words.specs.declared.office.MeetingLists.{MeetingLists}
+use Rattle.party_views.specs.OwnCasts.{all_casts}
 use Rattle.party_views.specs.declared.views.OwnView.{OwnView}
 use Rattle.laws_step.specs.OwnThings.{OwnThingsFunction, DependsOnOwnAlone}
 use Rattle.laws_step.specs.WrongAnswers.{a_member, meeting_with_casts, vote_of_another}
@@ -11,7 +12,7 @@ votes_more = record {
   first = refl;
   second = refl;
   agree = refl;
-  apart = λ h. (let shown : 0 ≡ 1 = ap (λ (own : OwnView). length own.casts) h in absurd (omega arith));
+  apart = λ h. (let shown : 0 ≡ 1 = ap (λ (own : OwnView). length (all_casts own.casts)) h in absurd (omega arith));
 }
 
 pub presence_more : ShowsMore presence_of_any quiet_meeting meeting_with_presence a_member

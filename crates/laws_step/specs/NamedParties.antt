@@ -20,6 +20,7 @@ use Rattle.desk_words.specs.declared.reply.Reply.TheVariants as reply
 use Rattle.desk_words.specs.declared.request.Request.{Request}
 use Rattle.desk_words.specs.declared.request.Request.TheVariants as asked
 use Rattle.desk_words.specs.ViewTypes.{Moment, Party}
+use Rattle.party_views.specs.OwnCasts.{all_casts}
 use Rattle.party_views.specs.declared.views.OwnView.{OwnView}
 use Rattle.party_views.specs.OwnViews.{nothing_of}
 use Rattle.party_views.specs.Views.{own_of}
@@ -77,7 +78,7 @@ in_view own =
     ++ flat_map in_authority own.persons
     ++ map (λ (a : Authorised). a.corporation) own.authorised
     ++ map (λ (d : DemandMark). d.party) own.demands
-    ++ flat_map in_cast own.casts
+    ++ flat_map in_cast (all_casts own.casts)
     ++ map (λ (r : Received). r.member) own.received)
 
 -- what a party may know of its own in the meeting in which it asks; where it asks what only the

@@ -7,12 +7,13 @@ use Rattle.desk_words.specs.declared.office.MeetingLists.{MeetingLists}
 use Rattle.desk_words.specs.declared.records.DemandMark.{DemandMark}
 use Rattle.desk_words.specs.declared.records.PresenceMark.{PresenceMark}
 use Rattle.party_views.specs.Views.{own_in}
+use Rattle.party_views.specs.declared.own_rows.OwnCasts.TheVariants.{All}
 use Rattle.laws_step.specs.OwnThings.{OwnThingsFunction, what_concerns}
 use Rattle.laws_step.specs.WrongAnswers.{another, meeting_with_casts}
 
 -- everybody's votes are told as the party's
 abbrev pub votes_of_all : OwnThingsFunction
-votes_of_all m closed party now = record (own_in m closed party now) { casts = m.casts }
+votes_of_all m closed party now = record (own_in m closed party now) { casts = All m.casts }
 
 -- the party is told that it is present in each session in which anybody is
 abbrev pub presence_of_any : OwnThingsFunction

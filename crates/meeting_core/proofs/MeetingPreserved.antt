@@ -31,7 +31,7 @@ use Rattle.desk_words.specs.declared.records.Session.{Session}
 use Rattle.desk_words.specs.declared.records.Poll.{Poll}
 use Rattle.desk_words.specs.declared.records.Tally.{Tally}
 use Rattle.desk_words.specs.Finding.{poll_on}
-use Rattle.caller_view.specs.CastRulings.{cast_count}
+use Rattle.party_views.specs.OwnCasts.{cast_count}
 use Rattle.desk_words.proofs.OfficeFacts.{meeting_facts, meeting_from_facts, find-passes}
 use Rattle.desk_words.specs.declared.change.MeetingChange.TheVariants.{SetRegister, SetOpened, AddSession, AddPoll, SetPoll}
 use Rattle.desk_words.specs.declared.change.PollChange.TheVariants.{Started, Closed, Declared}

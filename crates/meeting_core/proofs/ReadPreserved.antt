@@ -22,7 +22,7 @@ use Rattle.party_views.specs.Views.{meeting_at}
 use Rattle.office_decisions.specs.OfficeRulings.{office_ruling}
 use Rattle.office_decisions.specs.RequestLimits.{if_any, is_within_limits, keeps_limits}
 use Rattle.office_decisions.specs.Early.{early_refusal}
-use Rattle.office_decisions.specs.ListsRead.{lists_read, polls_alone, reads_register}
+use Rattle.office_decisions.specs.ListsRead.{first_read, lists_read, reads_register}
 use Rattle.office_decisions.proofs.EarlyLemmas.{refusals_stand}
 use Rattle.office_decisions.proofs.ReadLaws.{read_meeting, read_so}
 use Rattle.office_validation.specs.Validation.{in_order}
@@ -62,12 +62,12 @@ decided_so office meeting now what days found lists answer preserved read same i
     (is ∙ (λ i. ruled_answer (office_ruling (read.closed i) (ordered i) now what)) ∙ ap ruled_answer (read_so what now office.closed held))
     ∙ sym (settled_within (InMeeting meeting) (office_ruling office.closed held now what))
 
--- what the meeting and its polls refuse is decided so in each office whose meeting and polls they are
+-- what is refused from what is read first is decided so in each office of which it is read
 pub decided_early : (office : OfficeLists) (meeting : List ℕ) (now : ℕ) (what : OfficeRequest) (found : Option MeetingLists) (refusal : Refusal)
-    → found ≡ option_map polls_alone (meeting_at office meeting) → early_refusal found now what ≡ Some refusal → refused refusal ≡ decided office (office_call meeting now what)
+    → found ≡ option_map (first_read what) (meeting_at office meeting) → early_refusal found now what ≡ Some refusal → refused refusal ≡ decided office (office_call meeting now what)
 decided_early office meeting now what found refusal read is =
     let held = meeting_at office meeting in
-    ap (map_change (InMeeting meeting)) (sym (refusals_stand office.closed held now what refusal (ap (λ polls. early_refusal polls now what) (sym read) ∙ is)))
+    ap (map_change (InMeeting meeting)) (sym (refusals_stand office.closed held now what refusal (ap (λ first. early_refusal first now what) (sym read) ∙ is)))
     ∙ sym (settled_within (InMeeting meeting) (office_ruling office.closed held now what))
 
 -- a meeting's change keeps its limits in the office

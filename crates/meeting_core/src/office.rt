@@ -9,7 +9,7 @@ ghost use Rattle.desk_words.specs.declared.request.DeskRequest.TheVariants as de
 ghost use Rattle.office_decisions.specs.OfficeRulings.{is_register_held, office_needs_no_memory};
 ghost use Rattle.office_decisions.specs.DeskRulings.{same_days};
 ghost use Rattle.office_decisions.specs.Early.{early_refusal};
-ghost use Rattle.office_decisions.specs.ListsRead.{polls_alone, reads_register};
+ghost use Rattle.office_decisions.specs.ListsRead.{first_read, reads_register};
 ghost use Rattle.office_validation.specs.Validation.{in_order};
 ghost use Rattle.party_views.specs.Views.{meeting_at};
 ghost use Rattle.meeting_core.specs.Checked.{in_order_for};
@@ -83,8 +83,8 @@ fn checked_for(
 
 /// The meeting that was found, unless the meeting and its polls decide that the request is refused.
 /// Only the polls of its lists are read. The error is the answer that refuses: it is decided so in
-/// every office whose meeting and polls these are, and so for `NoMeeting` where none was found. It
-/// takes no memory.
+/// every office of which this is read first, and so for `NoMeeting` where none was found. It takes
+/// no memory.
 pub fn go_on_in_meeting(
     found: Option<MeetingLists>,
     now: Moment,
@@ -93,7 +93,7 @@ pub fn go_on_in_meeting(
     ensures found { IfOk result (λ lists. found ≡ Some lists) }
     ensures refused { is_err result ≡ is_some (early_refusal found now asked.now) }
     ensures decided { IfErr result (λ a. (office : OfficeLists) (meeting : MeetingName)
-        → found ≡ option_map polls_alone (meeting_at office meeting)
+        → found ≡ option_map (first_read asked.now) (meeting_at office meeting)
         → a ≡ decided office (office_call meeting now asked.now)) }
     ensures unchanged { IfErr result (λ a. a.change ≡ None) }
 {

@@ -1,5 +1,5 @@
--- What is refused from the meeting and its polls is refused from all of the meeting's lists.
-use Rattle.std.proofs.Common.{◌≡◌, ℕ, Bool, true, false, not, ◌&&◌, cond, List, [], ◌∷◌, ◌++◌, Some, None, refl, ap, ◌∙◌}
+-- What is refused from what is read first is refused from all of the meeting's lists.
+use Rattle.std.proofs.Common.{◌≡◌, ℕ, Bool, true, false, not, ◌&&◌, cond, List, [], ◌∷◌, ◌++◌, Some, None, refl, sym, ap, ◌∙◌}
 use Rattle.std.specs.List.{list_any}
 use Rattle.desk_words.specs.Refusals.{Case, first_refusal}
 use Rattle.desk_words.specs.Rulings.{refused_or}
@@ -11,8 +11,8 @@ use Rattle.vocabulary.specs.declared.refusal.Refusal.TheVariants.{DemandTooSmall
 use Rattle.office_decisions.specs.OfficeRulings.{is_some_at_once, office_ruling, ruling_on}
 use Rattle.office_decisions.specs.PollRulings.{adjourning_cases, is_running, opening_cases, ordering_cases}
 use Rattle.office_decisions.specs.PresenceRulings.{demand_noted, quorum_in}
-use Rattle.office_decisions.specs.ListsRead.{polls_alone}
 use Rattle.office_decisions.specs.Early.{EarlyRefusalsStand, early_cases}
+use Rattle.office_decisions.proofs.FirstRead.{first-read}
 
 -- a refusal by the first conditions is the refusal by all of them
 pub first_of_front : (front rest : List Case) (refusal : Refusal) → first_refusal front ≡ Some refusal → first_refusal (front ++ rest) ≡ Some refusal
@@ -35,7 +35,7 @@ demand_later front small h =
     ∙ elim small as (λ b. is_some_at_once (cond b (Some DemandTooSmall) None) ≡ false) [ true ↦ refl | false ↦ refl ]
 
 -- in a meeting
-refused_so : (closed : List ℕ) (now : ℕ) (asked : OfficeRequest) (m : MeetingLists) (refusal : Refusal) → first_refusal (early_cases (polls_alone m) now asked) ≡ Some refusal
+refused_so : (closed : List ℕ) (now : ℕ) (asked : OfficeRequest) (m : MeetingLists) (refusal : Refusal) → first_refusal (early_cases m now asked) ≡ Some refusal
     → first_refusal (ruling_on closed now asked m).cases ≡ Some refusal
 refused_so closed now (LoadRegister new) m refusal h = h
 refused_so closed now (Presence party) m refusal h = absurd (cc)
@@ -49,4 +49,5 @@ refused_so closed now (Declare resolution) m refusal h = h
 
 pub refusals_stand : EarlyRefusalsStand
 refusals_stand closed None now asked refusal h = ap (λ first. refused_or first (office_ruling closed None now asked).accepted) h
-refusals_stand closed (Some m) now asked refusal h = ap (λ first. refused_or first (ruling_on closed now asked m).accepted) (refused_so closed now asked m refusal h)
+refusals_stand closed (Some m) now asked refusal h =
+    ap (λ first. refused_or first (ruling_on closed now asked m).accepted) (refused_so closed now asked m refusal (ap first_refusal (sym (first-read asked now m)) ∙ h))

@@ -1,4 +1,4 @@
--- Why a request of the office in a meeting is refused from the meeting and its polls alone.
+-- Why a request of the office in a meeting is refused from what is read of it first.
 use Rattle.std.specs.Prelude.{◌≡◌, List, [], Option, Some, None, option_map}
 use Rattle.desk_words.specs.Refusals.{Case, first_refusal}
 use Rattle.desk_words.specs.Rulings.{refused, ruled_answer}
@@ -11,7 +11,7 @@ use Rattle.vocabulary.specs.declared.refusal.Refusal.TheVariants.{NoMeeting}
 use Rattle.office_decisions.specs.OfficeRulings.{office_ruling}
 use Rattle.office_decisions.specs.CallRulings.{load_cases}
 use Rattle.office_decisions.specs.PollRulings.{opening_cases, adjourning_cases, ordering_cases, start_cases, close_cases, declare_cases}
-use Rattle.office_decisions.specs.ListsRead.{polls_alone}
+use Rattle.office_decisions.specs.ListsRead.{first_read}
 
 -- the conditions of a request that the meeting and its polls decide: all but a quorum (section
 -- 318), a demand (section 321), and whether a poll runs by the closed days (section 327)
@@ -30,11 +30,11 @@ abbrev pub early_refusal : Option MeetingLists → Moment → OfficeRequest → 
 early_refusal None now asked = Some NoMeeting
 early_refusal (Some m) now asked = first_refusal (early_cases m now asked)
 
--- a request that is refused from a meeting and its polls alone is refused alike from all of the
+-- a request that is refused from what is read of the meeting first is refused alike from all of the
 -- meeting's lists
 abbrev pub EarlyRefusalsStand : Type 0
 EarlyRefusalsStand =
     (closed : List Day) (found : Option MeetingLists) (now : Moment) (asked : OfficeRequest)
     (refusal : Refusal)
-    → early_refusal (option_map polls_alone found) now asked ≡ Some refusal
+    → early_refusal (option_map (first_read asked) found) now asked ≡ Some refusal
     → ruled_answer (office_ruling closed found now asked) ≡ refused refusal

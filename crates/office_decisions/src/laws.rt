@@ -14,7 +14,7 @@ pub fn read_meetings_are_meetings()
     ensures { ReadMeetingsAreMeetings }
 {}
 
-/// A request that is refused from a meeting and its polls alone is refused alike from all of the
+/// A request that is refused from what is read of a meeting first is refused alike from all of the
 /// meeting's lists.
 pub fn early_refusals_stand()
     ensures { EarlyRefusalsStand }

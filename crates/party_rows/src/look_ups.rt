@@ -8,7 +8,7 @@ ghost use Rattle.party_views.specs.PartyRows.{own_rows};
 
 use crate::members::{claims_by, count_given_by, naming, naming_by};
 use crate::party_records::{
-    casts_of, casts_on, demands_of, ended_by, persons_of, presences_of, row_of, shares_of,
+    casts_of, count_cast_on, demands_of, ended_by, persons_of, presences_of, row_of, shares_of,
     trusting, trusting_for,
 };
 use desk_words::{
@@ -113,9 +113,8 @@ impl RowSource for InLists<'_> {
         Ok(Listing::from_vec(found))
     }
 
-    fn casts_on(&mut self, party: Party, resolution: u64) -> Result<Listing<CastMark>, AllocError> {
-        let found = casts_on(self.alloc, &self.lists.casts, party, resolution)?;
-        Ok(Listing::from_vec(found))
+    fn count_cast_on(&mut self, party: Party, resolution: u64) -> Result<usize, AllocError> {
+        Ok(count_cast_on(&self.lists.casts, party, resolution))
     }
 
     ghost still_shows = { Prim.search rules };

@@ -3,7 +3,7 @@ ghost use Rattle.std.specs.Prelude.{◌≡◌, ◌==◌, IfOk, filter, true};
 ghost use Rattle.std.specs.Option.{option_copied};
 ghost use Rattle.desk_words.specs.Ordered.{ascends_by};
 ghost use Rattle.desk_words.specs.Registers.{member_before};
-ghost use Rattle.party_views.specs.RowsRead.{cast_on};
+ghost use Rattle.party_views.specs.OwnCasts.{cast_count};
 ghost use Rattle.party_views.specs.PartyRows.{presences_of};
 ghost use Rattle.proxy_rules.specs.Holdings.{is_ended_of};
 ghost use Rattle.proxy_rules.specs.Parties.{authorises, is_authority_of, is_cast_by, is_demanded_by};
@@ -143,24 +143,17 @@ pub(crate) fn casts_of(
     casts.by_first(alloc, party)
 }
 
-/// The votes that a party cast on a resolution, in order of receipt.
-pub(crate) fn casts_on(
-    alloc: Global,
-    casts: &Filed<CastMark>,
-    party: Party,
-    resolution: u64,
-) -> Result<Vec<CastMark>, AllocError>
-    ensures { IfOk result (λ found. found.items
-        ≡ cast_on resolution (filter (is_cast_by party) casts.now)) }
+/// How many votes a party cast on a resolution.
+pub(crate) fn count_cast_on(casts: &Filed<CastMark>, party: Party, resolution: u64) -> usize
+    ensures { result ≡ cast_count (filter (is_cast_by party) casts.now) resolution }
 {
     let all = casts.as_slice();
     let places = casts.places_by_first(party);
-    let mut found = Vec::new(alloc);
+    let mut count = 0;
     for place in places {
-        let cast = &all[*place];
-        if cast.resolution == resolution {
-            found.push(*cast)?;
+        if all[*place].resolution == resolution {
+            count += 1;
         }
     }
-    Ok(found)
+    count
 }

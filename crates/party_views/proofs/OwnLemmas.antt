@@ -16,17 +16,21 @@ use Rattle.desk_words.specs.declared.records.Meeting.{Meeting}
 use Rattle.desk_words.specs.declared.records.Poll.{Poll}
 use Rattle.desk_words.specs.declared.request.NewCast.{NewCast}
 use Rattle.desk_words.specs.declared.request.PartyRequest.{PartyRequest}
+use Rattle.desk_words.specs.declared.request.PartyRequest.TheVariants.{Mine, Cast, Instructed}
 use Rattle.proxy_rules.specs.Cutoffs.{cutoffs_of, is_late_poll}
 use Rattle.proxy_rules.specs.Holdings.{is_given_by}
 use Rattle.proxy_rules.specs.Uses as uses
 use Rattle.proxy_rules.specs.declared.meeting_records.Cutoffs.{Cutoffs}
 use Rattle.proxy_rules.proofs.ProxyListLemmas.{reverse-filter}
-use Rattle.party_views.specs.OwnViews.{authorised_in_rows, governed_by, governed_in_holding, holds_as_individual, known_to_proxy, own_by, poll_governed, received_by, rows_by, session_governed}
+use Rattle.party_views.specs.OwnCasts.{counted_on, no_casts}
+use Rattle.party_views.specs.OwnViews.{authorised_in_rows, governed_by, governed_in_holding, holds_as_individual, known_to_proxy, nothing_of, own_by, poll_governed, received_by, rows_by, session_governed}
+use Rattle.party_views.specs.PartyRows.{no_own_rows}
 use Rattle.party_views.specs.SessionLists.{each_session}
 use Rattle.party_views.specs.declared.reads.Reads.{Reads}
 use Rattle.party_views.specs.declared.reads.Reads.TheVariants.{Standing, Vote, AsInstructed}
-use Rattle.party_views.specs.RowsRead.{appointments_read, authorised_read, authorities_read, cast_on, for_poll, gave_one_of, is_instructed_by, is_instructing, members_read, own_part, own_read, polls_part, polls_on, polls_read, reads_of, received_read, row_read, own_rows_part, own_rows_read}
+use Rattle.party_views.specs.RowsRead.{appointments_read, authorised_read, authorities_read, for_poll, gave_one_of, is_instructed_by, is_instructing, members_read, own_part, own_read, polls_part, polls_on, polls_read, reads_of, resolution_read, received_read, row_read, own_rows_part, own_rows_read}
 use Rattle.party_views.specs.declared.own_rows.AuthorityRows.{AuthorityRows}
+use Rattle.party_views.specs.declared.own_rows.OwnCasts.TheVariants.{Counted}
 use Rattle.party_views.specs.declared.own_rows.MemberRows.{MemberRows}
 use Rattle.party_views.specs.declared.own_rows.OwnRows.{OwnRows}
 use Rattle.party_views.proofs.FindLemmas.{find-filter}
@@ -228,7 +232,7 @@ own-of-part (Vote new) all closed meeting polls now =
       authorised = authorised i;
       presences = [];
       demands = [];
-      casts = cast_on new.resolution all.casts;
+      casts = counted_on new.resolution all.casts;
     }
 own-of-part Standing all closed meeting polls now =
     let received = received-standing (holds_as_individual all.row) all.members closed meeting polls now all.received in
@@ -243,3 +247,27 @@ own-of-part other all closed meeting polls now = refl
 pub own-read : (asked : PartyRequest) (all : OwnRows) (closed : List ℕ) (meeting : Meeting) (polls : List Poll) (now : ℕ)
     → own_by (own_rows_read asked all) closed meeting (polls_read asked polls) now ≡ own_read asked (own_by all closed meeting polls now)
 own-read asked = own-of-part (reads_of asked)
+
+-- and where there is nothing, nothing is read
+pub nothing-read : (party : List ℕ) (asked : PartyRequest) → record (nothing_of party) { casts = no_casts (resolution_read (reads_of asked)) } ≡ own_read asked (nothing_of party)
+nothing-read party Mine = refl
+nothing-read party (Cast new) = none-in new.capacity
+  where
+    none-in : (capacity : Capacity) → record (nothing_of party) { casts = Counted new.resolution 0 } ≡ own_part (Vote (record new { capacity = capacity })) (nothing_of party)
+    none-in Member = refl
+    none-in Rep = refl
+    none-in Proxy = refl
+nothing-read party (Instructed resolution) = refl
+nothing-read party asked = refl
+
+-- of the rows too
+pub no_rows-read : (party : List ℕ) (asked : PartyRequest) → record (no_own_rows party) { casts = no_casts (resolution_read (reads_of asked)) } ≡ own_rows_read asked (no_own_rows party)
+no_rows-read party Mine = refl
+no_rows-read party (Cast new) = none-in new.capacity
+  where
+    none-in : (capacity : Capacity) → record (no_own_rows party) { casts = Counted new.resolution 0 } ≡ own_rows_part (Vote (record new { capacity = capacity })) (no_own_rows party)
+    none-in Member = refl
+    none-in Rep = refl
+    none-in Proxy = refl
+no_rows-read party (Instructed resolution) = refl
+no_rows-read party asked = refl

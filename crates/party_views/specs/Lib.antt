@@ -1,3 +1,4 @@
+pub mod OwnCasts
 pub mod OwnViews
 pub mod PartyRows
 pub mod Public

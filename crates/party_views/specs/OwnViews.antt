@@ -25,6 +25,7 @@ use Rattle.proxy_rules.specs.declared.holdings.Holding.{Holding}
 use Rattle.proxy_rules.specs.declared.meeting_records.Cutoffs.{Cutoffs}
 use Rattle.party_views.specs.declared.own_rows.AuthorityRows.{AuthorityRows}
 use Rattle.party_views.specs.declared.own_rows.MemberRows.{MemberRows}
+use Rattle.party_views.specs.declared.own_rows.OwnCasts.TheVariants.{All}
 use Rattle.party_views.specs.declared.own_rows.OwnRows.{OwnRows}
 use Rattle.party_views.specs.declared.views.OwnView.{OwnView}
 use Rattle.party_views.specs.Public.{PublicRecord}
@@ -132,7 +133,7 @@ nothing_of party = record {
   authorised = [];
   presences = [];
   demands = [];
-  casts = [];
+  casts = All [];
 }
 
 -- the own things of a party in a meeting, by the closed days as they stand and by these polls, at a

@@ -11,6 +11,7 @@ use Rattle.proxy_rules.specs.Parties.{authorises, is_authority_of, is_cast_by, i
 use Rattle.proxy_rules.specs.Shares.{row_of}
 use Rattle.party_views.specs.declared.own_rows.AuthorityRows.{AuthorityRows}
 use Rattle.party_views.specs.declared.own_rows.MemberRows.{MemberRows}
+use Rattle.party_views.specs.declared.own_rows.OwnCasts.TheVariants.{All}
 use Rattle.party_views.specs.declared.own_rows.OwnRows.{OwnRows}
 
 -- the parties, each once, where it first stands
@@ -53,7 +54,7 @@ own_rows m party = record {
   authorised = map (authority_rows_in m) (filter (authorises party) m.authorities);
   presences = presences_of party m.presences;
   demands = filter (is_demanded_by party) m.demands;
-  casts = filter (is_cast_by party) m.casts;
+  casts = All (filter (is_cast_by party) m.casts);
 }
 
 -- the rows of a party where there is no meeting
@@ -70,7 +71,7 @@ no_own_rows party = record {
   authorised = [];
   presences = [];
   demands = [];
-  casts = [];
+  casts = All [];
 }
 
 -- the rows of a party in a meeting, if there is one

@@ -9,7 +9,6 @@ use Rattle.desk_words.specs.declared.own_things.Authorised.{Authorised}
 use Rattle.desk_words.specs.declared.own_things.PollGoverned.{PollGoverned}
 use Rattle.desk_words.specs.declared.own_things.Received.{Received}
 use Rattle.desk_words.specs.declared.records.Appointment.{Appointment}
-use Rattle.desk_words.specs.declared.records.CastMark.{CastMark}
 use Rattle.desk_words.specs.declared.records.Poll.{Poll}
 use Rattle.desk_words.specs.declared.records.RegisterRow.{RegisterRow}
 use Rattle.desk_words.specs.declared.request.NewCast.{NewCast}
@@ -17,6 +16,7 @@ use Rattle.desk_words.specs.declared.request.PartyRequest.{PartyRequest}
 use Rattle.desk_words.specs.declared.request.PartyRequest.TheVariants.{Notice, Mine, Appoint, End, Authorise, Attend, Demand, Cast, Instructed}
 use Rattle.proxy_rules.specs.Holdings.{is_given_by}
 use Rattle.proxy_rules.specs.Instructions.{instructed_on}
+use Rattle.party_views.specs.OwnCasts.{counted_on}
 use Rattle.party_views.specs.OwnViews.{holds_as_individual, nothing_of}
 use Rattle.party_views.specs.PartyRows.{no_own_rows}
 use Rattle.party_views.specs.declared.reads.Reads.{Reads}
@@ -25,10 +25,6 @@ use Rattle.party_views.specs.declared.own_rows.AuthorityRows.{AuthorityRows}
 use Rattle.party_views.specs.declared.own_rows.MemberRows.{MemberRows}
 use Rattle.party_views.specs.declared.own_rows.OwnRows.{OwnRows}
 use Rattle.party_views.specs.declared.views.OwnView.{OwnView}
-
--- those of the votes that are on a resolution
-abbrev pub cast_on : Number → List CastMark → List CastMark
-cast_on resolution casts = filter (λ (c : CastMark). c.resolution == resolution) casts
 
 -- the poll on a resolution, if there is one
 abbrev pub polls_on : Number → List Poll → List Poll
@@ -108,11 +104,11 @@ own_part (Vote new) own = record (nothing_of own.party) {
   row = row_read own.row new.capacity;
   received = received_read new own.received new.capacity;
   authorised = authorised_read new own.authorised new.capacity;
-  casts = cast_on new.resolution own.casts;
+  casts = counted_on new.resolution own.casts;
 }
 own_part (AsInstructed resolution) own = record (nothing_of own.party) {
   received = map (for_poll resolution) (filter (is_instructed_by resolution) own.received);
-  casts = cast_on resolution own.casts;
+  casts = counted_on resolution own.casts;
 }
 
 -- those of the own things that the answer to a request reads
@@ -162,14 +158,14 @@ own_rows_part (Vote new) rows = record (no_own_rows rows.party) {
   received = appointments_read new rows.received new.capacity;
   members = members_read new rows.members new.capacity;
   authorised = authorities_read new rows.authorised new.capacity;
-  casts = cast_on new.resolution rows.casts;
+  casts = counted_on new.resolution rows.casts;
 }
 own_rows_part (AsInstructed resolution) rows =
     let instructing = filter (is_instructing resolution) rows.received in
     record (no_own_rows rows.party) {
       received = instructing;
       members = filter (gave_one_of instructing) rows.members;
-      casts = cast_on resolution rows.casts;
+      casts = counted_on resolution rows.casts;
     }
 
 -- those of the rows from which what the answer to a request reads is made

@@ -8,7 +8,7 @@ mod own_view;
 mod reads;
 mod views;
 
-pub use own_rows::{AuthorityRows, MemberRows, OwnRows};
-pub use own_view::{own_for, own_from};
+pub use own_rows::{AuthorityRows, MemberRows, OwnCasts, OwnRows};
+pub use own_view::{no_casts_for, own_for, own_from};
 pub use reads::{Reads, holds_as_individual, reads_of};
 pub use views::{OwnView, PublicRecord};

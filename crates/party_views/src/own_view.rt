@@ -1,6 +1,7 @@
 //! A party's own things, from its rows in a meeting and the public record of the meeting.
 ghost use Rattle.std.specs.Prelude.{◌≡◌, IfOk};
 ghost use Rattle.desk_words.specs.declared.office.MeetingLists.{MeetingLists};
+ghost use Rattle.party_views.specs.OwnCasts.{no_casts};
 ghost use Rattle.party_views.specs.OwnViews.{nothing_of, own_by, own_from};
 ghost use Rattle.party_views.specs.RowsRead.{own_read, polls_if_on, reads_of, resolution_read, own_rows_read};
 ghost use Rattle.party_views.specs.PartyRows.{own_rows};
@@ -9,7 +10,7 @@ ghost use Rattle.party_views.specs.declared.own_rows.OwnRows.{OwnRows};
 
 use crate::given::{authorised_from, given_from};
 use crate::governed::{PollsAsked, received_from};
-use crate::own_rows::OwnRows;
+use crate::own_rows::{OwnCasts, OwnRows};
 use crate::reads::{Reads, reads_of};
 use crate::views::{OwnView, PublicRecord};
 use desk_words::{Listing, Meeting, Moment, Party, PartyRequest};
@@ -30,7 +31,7 @@ fn nothing_of(alloc: Global, party: Party) -> OwnView
         authorised: Listing::new(alloc),
         presences: Listing::new(alloc),
         demands: Listing::new(alloc),
-        casts: Listing::new(alloc),
+        casts: OwnCasts::All(Listing::new(alloc)),
     }
 }
 
@@ -118,6 +119,29 @@ fn resolution_read(asked: &PartyRequest) -> Option<u64>
     }
 }
 
+/// What the answer to a request reads of the votes of a party that cast none.
+pub fn no_casts_for(alloc: Global, asked: &PartyRequest) -> OwnCasts
+    ensures { result ≡ no_casts (resolution_read (reads_of asked.now)) }
+{
+    match resolution_read(asked) {
+        Some(resolution) => OwnCasts::Counted {
+            resolution,
+            count: 0,
+        },
+        None => OwnCasts::All(Listing::new(alloc)),
+    }
+}
+
+/// What the answer to a request reads of the own things of a party where there is no meeting.
+fn nothing_for(alloc: Global, party: Party, asked: &PartyRequest) -> OwnView
+    ensures { result ≡ own_read asked.now (nothing_of party) }
+{
+    OwnView {
+        casts: no_casts_for(alloc, asked),
+        ..nothing_of(alloc, party)
+    }
+}
+
 /// Those of the own things of a party at a moment that the answer to a request reads, and nothing
 /// in place of the others, from those of its rows that they are made of, which are moved into them.
 /// The error is want of memory.
@@ -140,6 +164,6 @@ pub fn own_for(
             };
             own_by(alloc, rows, public.closed, meeting, &polls, now)
         }
-        None => Ok(nothing_of(alloc, rows.party)),
+        None => Ok(nothing_for(alloc, rows.party, asked)),
     }
 }

@@ -2,9 +2,9 @@
 ghost use Rattle.std.specs.Prelude.{◌≡◌};
 ghost use Rattle.std.specs.Option.{option_copied};
 
+use crate::own_rows::OwnCasts;
 use desk_words::{
-    Authorised, Authority, CastMark, DemandMark, Given, Listing, Meeting, Party, Poll, Received,
-    RegisterRow,
+    Authorised, Authority, DemandMark, Given, Listing, Meeting, Party, Poll, Received, RegisterRow,
 };
 use office_days::Closed;
 use std::marker::Model;
@@ -93,6 +93,5 @@ pub struct OwnView {
     pub presences: Listing<u64>,
     /// The polls that it demanded (sections 321 and 329).
     pub demands: Listing<DemandMark>,
-    /// The votes that it cast.
-    pub casts: Listing<CastMark>,
+    pub casts: OwnCasts,
 }

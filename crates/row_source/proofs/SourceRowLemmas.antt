@@ -8,7 +8,9 @@ use Rattle.desk_words.specs.ViewTypes.{Party}
 use Rattle.desk_words.specs.declared.office.MeetingLists.{MeetingLists}
 use Rattle.desk_words.specs.declared.request.NewCast.{NewCast}
 use Rattle.party_views.specs.OwnViews.{holds_as_individual}
-use Rattle.party_views.specs.RowsRead.{cast_on, gave_one_of, is_instructing, own_rows_part}
+use Rattle.party_views.specs.OwnCasts.{counted_on}
+use Rattle.party_views.specs.declared.own_rows.OwnCasts.TheVariants.{All}
+use Rattle.party_views.specs.RowsRead.{gave_one_of, is_instructing, own_rows_part}
 use Rattle.party_views.specs.PartyRows.{authority_rows_in, givers, member_in, no_own_rows, presences_of, own_rows_in, own_rows}
 use Rattle.party_views.specs.declared.reads.Reads.TheVariants as reads
 use Rattle.party_views.specs.declared.own_rows.AuthorityRows.{AuthorityRows}
@@ -41,7 +43,7 @@ pub rows_are : (found : Option MeetingLists) (party : Party)
       given_count = length (filter (is_given_by party) (appointments_in found));
       ended = filter (is_ended_of party) (endings_in found);
       persons = filter (is_authority_of party) (authorities_in found);
-      casts = casts_by found party;
+      casts = All (casts_by found party);
     } ≡ own_rows_in found party
 rows_are None party = refl
 rows_are (Some m) party = refl
@@ -133,20 +135,20 @@ member_is found party new is = go found ∙ vote_preserved found party new capac
     go (Some m) = refl
 
 pub rep_is : (found : Option MeetingLists) (party : Party) (new : NewCast) → new.capacity ≡ capacity.Rep
-    → record (no_own_rows party) { authorised = map (authority_at found) (trusting_for_in found new.member party); casts = cast_on new.resolution (casts_by found party) } ≡ own_rows_part (reads.Vote new) (own_rows_in found party)
+    → record (no_own_rows party) { authorised = map (authority_at found) (trusting_for_in found new.member party); casts = counted_on new.resolution (All (casts_by found party)) } ≡ own_rows_part (reads.Vote new) (own_rows_in found party)
 rep_is found party new is = go found ∙ vote_preserved found party new capacity.Rep is
   where
-    go : (found : Option MeetingLists) → record (no_own_rows party) { authorised = map (authority_at found) (trusting_for_in found new.member party); casts = cast_on new.resolution (casts_by found party) } ≡ read_as found party new capacity.Rep
+    go : (found : Option MeetingLists) → record (no_own_rows party) { authorised = map (authority_at found) (trusting_for_in found new.member party); casts = counted_on new.resolution (All (casts_by found party)) } ≡ read_as found party new capacity.Rep
     go None = refl
     go (Some m) =
         let those = filter-map (λ (rows : AuthorityRows). same_name rows.authority.corporation new.member) (authority_rows_in m) (trusting_in (Some m) party) in
-        λ i. record (no_own_rows party) { authorised = sym those i; casts = cast_on new.resolution (casts_by (Some m) party) }
+        λ i. record (no_own_rows party) { authorised = sym those i; casts = counted_on new.resolution (All (casts_by (Some m) party)) }
 
 pub proxy_is : (found : Option MeetingLists) (party : Party) (new : NewCast) → new.capacity ≡ capacity.Proxy
     → record (no_own_rows party) {
       received = naming_by_in found new.member party;
       members = (with_givers found None (naming_by_in found new.member party)).members;
-      casts = cast_on new.resolution (casts_by found party);
+      casts = counted_on new.resolution (All (casts_by found party));
     } ≡ own_rows_part (reads.Vote new) (own_rows_in found party)
 proxy_is found party new is = go found ∙ vote_preserved found party new capacity.Proxy is
   where
@@ -154,11 +156,11 @@ proxy_is found party new is = go found ∙ vote_preserved found party new capaci
         → record (no_own_rows party) {
           received = naming_by_in found new.member party;
           members = (with_givers found None (naming_by_in found new.member party)).members;
-          casts = cast_on new.resolution (casts_by found party);
+          casts = counted_on new.resolution (All (casts_by found party));
         } ≡ read_as found party new capacity.Proxy
     go None = refl
     go (Some m) = λ i. record (no_own_rows party) {
       received = naming_by_in (Some m) new.member party;
       members = members-read m new capacity.Proxy (naming_in (Some m) party) i;
-      casts = cast_on new.resolution (casts_by (Some m) party);
+      casts = counted_on new.resolution (All (casts_by (Some m) party));
     }

@@ -14,7 +14,9 @@ use Rattle.desk_words.specs.declared.records.RegisterRow.{RegisterRow}
 use Rattle.proxy_rules.specs.Holdings.{claims_of, holding_of, is_given_by}
 use Rattle.proxy_rules.specs.Parties.{authorises, is_authority_of, is_cast_by, is_demanded_by, names}
 use Rattle.proxy_rules.specs.Shares.{row_of}
-use Rattle.party_views.specs.RowsRead.{cast_on, is_instructing}
+use Rattle.party_views.specs.OwnCasts.{counted_on}
+use Rattle.party_views.specs.declared.own_rows.OwnCasts.TheVariants.{All}
+use Rattle.party_views.specs.RowsRead.{is_instructing}
 use Rattle.party_views.specs.PartyRows.{givers, no_own_rows, presences_of}
 use Rattle.party_views.specs.declared.own_rows.AuthorityRows.{AuthorityRows}
 use Rattle.party_views.specs.declared.own_rows.MemberRows.{MemberRows}
@@ -139,9 +141,9 @@ own_marks found party = record {
   demands = filter (is_demanded_by party) (demands_in found);
 }
 
--- what a vote as a member reads: the party's own row, and its votes on that resolution
+-- what a vote as a member reads: the party's own row, and how many votes it cast on that resolution
 abbrev pub for_member : Option MeetingLists → Party → Number → OwnRows
 for_member found party resolution = record (no_own_rows party) {
   row = row_of (register_in found) party;
-  casts = cast_on resolution (casts_by found party);
+  casts = counted_on resolution (All (casts_by found party));
 }

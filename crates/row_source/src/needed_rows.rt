@@ -1,6 +1,7 @@
 //! Those of a party's rows in a meeting that the answer to its request reads.
 ghost use Rattle.std.specs.Prelude.{◌≡◌, map};
-ghost use Rattle.party_views.specs.RowsRead.{cast_on};
+ghost use Rattle.party_views.specs.OwnCasts.{counted_on};
+ghost use Rattle.party_views.specs.declared.own_rows.OwnCasts.TheVariants.{All};
 ghost use Rattle.party_views.specs.RowsRead.{own_rows_part};
 ghost use Rattle.party_views.specs.PartyRows.{no_own_rows, own_rows_in};
 ghost use Rattle.party_views.specs.declared.reads.Reads.TheVariants as reads;
@@ -11,7 +12,7 @@ ghost use Rattle.row_source.specs.TrueLookUps.{IsTrueLookUp};
 use crate::members::{authorised, named};
 use crate::source::RowSource;
 use desk_words::{Appointment, Capacity, DemandMark, Listing, NewCast, Party, RegisterRow};
-use party_views::{AuthorityRows, MemberRows, OwnRows, Reads, holds_as_individual};
+use party_views::{AuthorityRows, MemberRows, OwnCasts, OwnRows, Reads, holds_as_individual};
 use std::alloc::Global;
 
 /// The rows of a party where there is no meeting.
@@ -30,7 +31,7 @@ pub fn no_own_rows(alloc: Global, party: Party) -> OwnRows
         authorised: Listing::new(alloc),
         presences: Listing::new(alloc),
         demands: Listing::new(alloc),
-        casts: Listing::new(alloc),
+        casts: OwnCasts::All(Listing::new(alloc)),
     }
 }
 
@@ -152,7 +153,7 @@ fn read_all<R: RowSource>(source: &mut R, alloc: Global, party: Party) -> Result
         authorised,
         presences,
         demands,
-        casts,
+        casts: OwnCasts::All(casts),
     })
 }
 
@@ -246,16 +247,16 @@ fn for_instructed<R: RowSource>(
         (λ found rows. rows ≡ own_rows_part (reads.AsInstructed resolution) (own_rows_in found party)) }
 {
     let named = named(source, alloc, None, party, Some(resolution))?;
-    let casts = source.casts_on(party, resolution)?;
+    let count = source.count_cast_on(party, resolution)?;
     Ok(OwnRows {
         received: named.received,
         members: named.members,
-        casts,
+        casts: OwnCasts::Counted { resolution, count },
         ..no_own_rows(alloc, party)
     })
 }
 
-/// What a vote as a member reads: the party's own row, and its votes on that resolution.
+/// What a vote as a member reads: the party's own row, and how many votes it cast on that resolution.
 fn for_member<R: RowSource>(
     source: &mut R,
     alloc: Global,
@@ -266,16 +267,16 @@ fn for_member<R: RowSource>(
         (λ found rows. rows ≡ for_member found party resolution) }
 {
     let row = source.row_of(party)?;
-    let casts = source.casts_on(party, resolution)?;
+    let count = source.count_cast_on(party, resolution)?;
     Ok(OwnRows {
         row,
-        casts,
+        casts: OwnCasts::Counted { resolution, count },
         ..no_own_rows(alloc, party)
     })
 }
 
-/// What a vote as a representative reads: the authority that the corporation gave, and the party's
-/// votes on that resolution.
+/// What a vote as a representative reads: the authority that the corporation gave, and how many
+/// votes the party cast on that resolution.
 fn for_rep<R: RowSource>(
     source: &mut R,
     alloc: Global,
@@ -285,20 +286,23 @@ fn for_rep<R: RowSource>(
     ensures { IsTrueLookUp R.trusted R.shows R.keeps R.leaves R.may_fail source.old source.new result
         (λ found rows. rows ≡ record (no_own_rows party) {
           authorised = map (authority_at found) (trusting_for_in found new.now.member party);
-          casts = cast_on new.now.resolution (casts_by found party);
+          casts = counted_on new.now.resolution (All (casts_by found party));
         }) }
 {
     let authorised = authorised(source, alloc, Some(new.member), party)?;
-    let casts = source.casts_on(party, new.resolution)?;
+    let count = source.count_cast_on(party, new.resolution)?;
     Ok(OwnRows {
         authorised,
-        casts,
+        casts: OwnCasts::Counted {
+            resolution: new.resolution,
+            count,
+        },
         ..no_own_rows(alloc, party)
     })
 }
 
 /// What a vote as a proxy reads: the member's appointments that name the party, the member who gave
-/// them, and the party's votes on that resolution.
+/// them, and how many votes the party cast on that resolution.
 fn for_proxy<R: RowSource>(
     source: &mut R,
     alloc: Global,
@@ -309,15 +313,18 @@ fn for_proxy<R: RowSource>(
         (λ found rows. rows ≡ record (no_own_rows party) {
           received = naming_by_in found new.now.member party;
           members = (with_givers found None (naming_by_in found new.now.member party)).members;
-          casts = cast_on new.now.resolution (casts_by found party);
+          casts = counted_on new.now.resolution (All (casts_by found party));
         }) }
 {
     let named = named(source, alloc, Some(new.member), party, None)?;
-    let casts = source.casts_on(party, new.resolution)?;
+    let count = source.count_cast_on(party, new.resolution)?;
     Ok(OwnRows {
         received: named.received,
         members: named.members,
-        casts,
+        casts: OwnCasts::Counted {
+            resolution: new.resolution,
+            count,
+        },
         ..no_own_rows(alloc, party)
     })
 }

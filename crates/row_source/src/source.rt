@@ -1,6 +1,6 @@
 //! Look-ups of a meeting's records.
 ghost use Rattle.std.specs.Prelude.{◌≡◌, Option, alloc_error, filter, length, map};
-ghost use Rattle.party_views.specs.RowsRead.{cast_on};
+ghost use Rattle.party_views.specs.OwnCasts.{cast_count};
 ghost use Rattle.party_views.specs.PartyRows.{presences_of};
 ghost use Rattle.desk_words.specs.declared.office.MeetingLists.{MeetingLists};
 ghost use Rattle.proxy_rules.specs.Holdings.{claim_of, is_ended_of, is_given_by};
@@ -117,10 +117,10 @@ pub trait RowSource {
         ensures { IsTrueLookUp trusted shows keeps leaves may_fail self.old self.new result
             (λ found casts. casts ≡ casts_by found party) };
 
-    /// Those of them that are on a resolution.
-    fn casts_on(&mut self, party: Party, resolution: u64) -> Result<Listing<CastMark>, Self::Error>
+    /// How many of them are on a resolution.
+    fn count_cast_on(&mut self, party: Party, resolution: u64) -> Result<usize, Self::Error>
         ensures { IsTrueLookUp trusted shows keeps leaves may_fail self.old self.new result
-            (λ found casts. casts ≡ cast_on resolution (casts_by found party)) };
+            (λ found count. count ≡ cast_count (casts_by found party) resolution) };
 
     ghost still_shows: { (a b : Self) → keeps a b → trusted b
         → (found : Option MeetingLists) → shows a found → shows b found };

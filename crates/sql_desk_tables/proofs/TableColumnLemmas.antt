@@ -1,6 +1,7 @@
 -- Statements that are asked about, and not run.
-use Rattle.std.proofs.Common.{◌≡◌, ℕ, true, List, [], ◌∷◌, ◌++◌, map, Ok, Err, IsOk, Result, is_ok, IfErr, IfOk, IsTrue, refl, sym, ap, subst, ◌∙◌, inl, inr, arith}
-use Rattle.std.specs.List.{AllByRecursion}
+use Rattle.std.proofs.Common.{◌≡◌, ℕ, true, List, [], ◌∷◌, ◌++◌, drop, length, map, Ok, Err, IsOk, Result, is_ok, IfErr, IfOk, IsTrue, refl, sym, ap, subst, ◌∙◌, inl, inr, arith}
+use Rattle.std.specs.List.{AllByRecursion, list_all}
+use Rattle.std.proofs.lemmas.Bool.{and_parts}
 use Rattle.std.proofs.lemmas.Result.{on_ok_weaker}
 use Rattle.sqlite.specs.declared.error.Error.{Error}
 use Rattle.sqlite.specs.declared.error.Error.TheVariants.{SqlInputError}
@@ -20,13 +21,13 @@ use Rattle.sqlite_trees.specs.declared.error.StoreError.TheVariants as kind
 use Rattle.sqlite_trees.specs.declared.store.Store as store
 use Rattle.sql_schema.specs.Statements.{HasTables, layout_one, layout_two}
 use Rattle.sql_lemmas.proofs.Frames.{as_one, beside, wide}
-use Rattle.sql_schema.specs.Tables.{desk_table, keys_table, closed_table, meetings_table, resolutions_table, register_table, appointments_table, endings_table, authorities_table, presences_before_sessions_table, demands_before_sessions_table, polls_before_sessions_table, casts_table, sessions_table, presences_table, demands_table, polls_table, asked_one}
+use Rattle.sql_schema.specs.Tables.{asked_one, asked_two}
 use Rattle.sql_schema.specs.SqlTexts.{asking_text}
 use Rattle.sqlite.specs.Table.{Table}
 use Rattle.sqlite_schema.specs.declared.schema.Index.{Index}
 use Rattle.sqlite_schema.specs.declared.schema.View.{View as Stored}
 use Rattle.sqlite.specs.Schema.{Schema}
-use Rattle.sql_desk_tables.specs.ColumnChecks.{AreUnderstood, AsksFor, HasColumns, HasColumnsOf, session_columns}
+use Rattle.sql_desk_tables.specs.ColumnChecks.{AreUnderstood, AsksFor, HasColumns, HasColumnsOf}
 use Rattle.sql_desk_tables.specs.declared.columns.ColumnError.{ColumnError}
 use Rattle.sql_desk_tables.specs.declared.columns.ColumnError.TheVariants.{Missing, Refused}
 
@@ -128,85 +129,32 @@ asks_stop {e = e} g a b texts more r is one = subst (λ q. AsksFor g a b (texts 
       (bad.0, λ are. bad.1 (front _ texts more are));
 })
 
+-- texts that are computed to be statements are statements
+all_understood : (s : Schema) (texts : List (List ℕ)) → list_all (λ text. is_ok (understood s text)) texts ≡ true → AreUnderstood s texts
+all_understood s [] h = tt
+all_understood s (text ∷ texts) h = let p = and_parts (is_ok (understood s text)) (list_all (λ text. is_ok (understood s text)) texts) h in (p.0, all_understood s texts p.1)
+
+-- the texts that name the columns of the tables that version 2 adds
+added_texts : List (List ℕ)
+added_texts = map asking_text (drop (length asked_one) asked_two)
+
 -- each text is a statement over the tables of a desk, whatever stands beside them
 module _ (others : List Table) (indexes : List Index) (views : List Stored) where
-  asks_desk : IsOk (understood (beside layout_one others indexes views) (asking_text desk_table))
+  ones_understood : list_all (λ text. is_ok (understood (beside layout_one others indexes views) text)) (map asking_text asked_one) ≡ true
   unfolding understood everything
-  asks_desk = refl
+  ones_understood = refl
 
-  asks_keys : IsOk (understood (beside layout_one others indexes views) (asking_text keys_table))
-  unfolding understood everything
-  asks_keys = refl
-
-  asks_closed : IsOk (understood (beside layout_one others indexes views) (asking_text closed_table))
-  unfolding understood everything
-  asks_closed = refl
-
-  asks_meetings : IsOk (understood (beside layout_one others indexes views) (asking_text meetings_table))
-  unfolding understood everything
-  asks_meetings = refl
-
-  asks_resolutions : IsOk (understood (beside layout_one others indexes views) (asking_text resolutions_table))
-  unfolding understood everything
-  asks_resolutions = refl
-
-  asks_register : IsOk (understood (beside layout_one others indexes views) (asking_text register_table))
-  unfolding understood everything
-  asks_register = refl
-
-  asks_appointments : IsOk (understood (beside layout_one others indexes views) (asking_text appointments_table))
-  unfolding understood everything
-  asks_appointments = refl
-
-  asks_endings : IsOk (understood (beside layout_one others indexes views) (asking_text endings_table))
-  unfolding understood everything
-  asks_endings = refl
-
-  asks_authorities : IsOk (understood (beside layout_one others indexes views) (asking_text authorities_table))
-  unfolding understood everything
-  asks_authorities = refl
-
-  asks_presences_before_sessions : IsOk (understood (beside layout_one others indexes views) (asking_text presences_before_sessions_table))
-  unfolding understood everything
-  asks_presences_before_sessions = refl
-
-  asks_demands_before_sessions : IsOk (understood (beside layout_one others indexes views) (asking_text demands_before_sessions_table))
-  unfolding understood everything
-  asks_demands_before_sessions = refl
-
-  asks_polls_before_sessions : IsOk (understood (beside layout_one others indexes views) (asking_text polls_before_sessions_table))
-  unfolding understood everything
-  asks_polls_before_sessions = refl
-
-  asks_casts : IsOk (understood (beside layout_one others indexes views) (asking_text casts_table))
-  unfolding understood everything
-  asks_casts = refl
+  added_understood : list_all (λ text. is_ok (understood (beside layout_two others indexes views) text)) added_texts ≡ true
+  unfolding added_texts understood everything
+  added_understood = refl
 
 pub columns_one_stand : (s : Schema) → HasTables layout_one s → HasColumnsOf asked_one s
 unfolding HasColumnsOf
-columns_one_stand = wide (HasColumnsOf asked_one) (λ others apart indexes views. (asks_desk others indexes views, (asks_keys others indexes views, (asks_closed others indexes views, (asks_meetings others indexes views, (asks_resolutions others indexes views, (asks_register others indexes views, (asks_appointments others indexes views, (asks_endings others indexes views, (asks_authorities others indexes views, (asks_presences_before_sessions others indexes views, (asks_demands_before_sessions others indexes views, (asks_polls_before_sessions others indexes views, (asks_casts others indexes views, tt))))))))))))))
+columns_one_stand = wide (HasColumnsOf asked_one) (λ others apart indexes views. all_understood (beside layout_one others indexes views) (map asking_text asked_one) (ones_understood others indexes views))
 
--- and so it is with those of the tables that version 2 adds
-module _ (others : List Table) (indexes : List Index) (views : List Stored) where
-  asks_sessions : IsOk (understood (beside layout_two others indexes views) (asking_text sessions_table))
-  unfolding understood everything
-  asks_sessions = refl
-
-  asks_presences : IsOk (understood (beside layout_two others indexes views) (asking_text presences_table))
-  unfolding understood everything
-  asks_presences = refl
-
-  asks_demands : IsOk (understood (beside layout_two others indexes views) (asking_text demands_table))
-  unfolding understood everything
-  asks_demands = refl
-
-  asks_polls : IsOk (understood (beside layout_two others indexes views) (asking_text polls_table))
-  unfolding understood everything
-  asks_polls = refl
-
-sessions_stand : (s : Schema) → HasTables layout_two s → AreUnderstood s session_columns
-sessions_stand = wide (λ s. AreUnderstood s session_columns) (λ others apart indexes views. (asks_sessions others indexes views, (asks_presences others indexes views, (asks_demands others indexes views, (asks_polls others indexes views, tt)))))
+sessions_stand : (s : Schema) → HasTables layout_two s → AreUnderstood s added_texts
+sessions_stand = wide (λ s. AreUnderstood s added_texts) (λ others apart indexes views. all_understood (beside layout_two others indexes views) added_texts (added_understood others indexes views))
 
 pub columns_stand : (s : Schema) → HasTables layout_two s → HasColumns s
-unfolding HasColumnsOf
-columns_stand s has = both (λ text. IsOk (understood s text)) (map asking_text asked_one) session_columns (columns_one_stand s (as_one s has)) (sessions_stand s has)
+unfolding HasColumnsOf added_texts
+columns_stand s has = both (λ text. IsOk (understood s text)) (map asking_text asked_one) added_texts (columns_one_stand s (as_one s has)) (sessions_stand s has)

@@ -1,5 +1,5 @@
 -- What asking for columns returns.
-use Rattle.std.specs.Prelude.{◌≡◌, ℕ, List, [], ◌∷◌, map, Result, Err, IsOk, IsTrue, OnOk}
+use Rattle.std.specs.Prelude.{◌≡◌, ℕ, List, map, Result, Err, IsOk, IsTrue, OnOk}
 use Rattle.std.specs.List.{AllByRecursion}
 use Rattle.sqlite.specs.Held.{Held, state}
 use Rattle.sqlite.specs.Listing.{understood}
@@ -7,34 +7,10 @@ use Rattle.sqlite.specs.Schema.{Schema}
 use Rattle.sqlite.specs.State.{HasCleanDisk, Survives}
 use Rattle.sqlite.specs.Table.{Table}
 use Rattle.sqlite_trees.specs.declared.store.Store as store
-use Rattle.sql_schema.specs.Tables.{desk_table, keys_table, closed_table, meetings_table, resolutions_table, register_table, appointments_table, endings_table, authorities_table, presences_before_sessions_table, demands_before_sessions_table, polls_before_sessions_table, casts_table, sessions_table, presences_table, demands_table, polls_table, asked_two}
+use Rattle.sql_schema.specs.Tables.{asked_two}
 use Rattle.sql_schema.specs.SqlTexts.{asking_text}
 use Rattle.sql_desk_tables.specs.declared.columns.ColumnError.{ColumnError}
 use Rattle.sql_desk_tables.specs.declared.columns.ColumnError.TheVariants.{Missing}
-
--- the columns of the desk, of its meetings, and of their resolutions and registers
-abbrev pub meeting_columns : List (List ℕ)
-meeting_columns =
-    map asking_text
-    (desk_table ∷ keys_table ∷ closed_table ∷ meetings_table ∷ resolutions_table ∷ register_table
-    ∷ [])
-
--- the columns of what is handed in
-abbrev pub proxy_columns : List (List ℕ)
-proxy_columns =
-    map asking_text
-    (appointments_table ∷ endings_table ∷ authorities_table ∷ presences_before_sessions_table ∷ [])
-
--- the columns of demands, polls and votes
-abbrev pub poll_columns : List (List ℕ)
-poll_columns =
-    map asking_text
-    (demands_before_sessions_table ∷ polls_before_sessions_table ∷ casts_table ∷ [])
-
--- the columns of the tables that version 2 adds
-abbrev pub session_columns : List (List ℕ)
-session_columns =
-    map asking_text (sessions_table ∷ presences_table ∷ demands_table ∷ polls_table ∷ [])
 
 -- over tables of this schema each text is a statement
 abbrev pub AreUnderstood : Schema → List (List ℕ) → Type 0

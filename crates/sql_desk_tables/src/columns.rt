@@ -1,10 +1,10 @@
 //! Whether the columns that are read stand.
-ghost use Rattle.std.specs.Prelude.{◌≡◌, ◌++◌, ◌∷◌, [], false};
+ghost use Rattle.std.specs.Prelude.{◌≡◌, ◌∷◌, [], false, map};
+ghost use Rattle.sql_schema.specs.SqlTexts.{asking_text};
 ghost use Rattle.sql_schema.specs.Statements.{HasTables, layout_one, layout_two};
-ghost use Rattle.sql_schema.specs.Tables.{asked_one};
+ghost use Rattle.sql_schema.specs.Tables.{asked_one, asked_two};
 ghost use Rattle.sqlite.specs.Schema.{Schema};
 ghost use Rattle.sql_desk_tables.specs.ColumnChecks.{AsksFor, HasColumns, HasColumnsOf};
-ghost use Rattle.sql_desk_tables.specs.ColumnChecks.{meeting_columns, proxy_columns, poll_columns, session_columns};
 ghost use Rattle.sql_desk_tables.specs.Versions.{version_text};
 ghost use Rattle.sql_desk_tables.specs.declared.columns.ColumnError.TheVariants.{Refused};
 
@@ -51,112 +51,66 @@ pub fn ask_version<S: Alter>(conn: &mut Connection<S>) -> Result<(), ColumnError
     ask(conn, "SELECT one, version FROM desk ORDER BY one")
 }
 
-/// Asks for the columns of the desk, of its meetings, and of their resolutions and registers.
-fn ask_meetings<S: Alter>(conn: &mut Connection<S>) -> Result<(), ColumnError>
+/// Whether the database understands each of these statements, of which none is run.
+fn ask_each<S: Alter>(
+    conn: &mut Connection<S>,
+    first: &str,
+    more: &[&str],
+) -> Result<(), ColumnError>
     requires { conn.old.in_transaction ≡ false }
     ensures ended { conn.new.in_transaction ≡ false }
-    ensures asked { AsksFor S.Store conn.old conn.new meeting_columns result }
+    ensures asked { AsksFor S.Store conn.old conn.new (first.now ∷ map (λ text. text.now) more.now)
+        result }
 {
-    ask(conn, "SELECT one, version FROM desk")?;
-    ask(conn, "SELECT party, secret FROM keys")?;
-    ask(conn, "SELECT day FROM closed")?;
-    ask(
-        conn,
-        "SELECT seq, meeting, company, kind, given, appointed, record, loaded, opened FROM meetings",
-    )?;
-    ask(conn, "SELECT meeting, number, kind, body FROM resolutions")?;
-    ask(
-        conn,
-        "SELECT meeting, member, kind, name, shares, paid FROM register",
-    )
-}
-
-/// Asks for the columns of what is handed in: appointments, endings, authorities and presences.
-fn ask_proxy_columns<S: Alter>(conn: &mut Connection<S>) -> Result<(), ColumnError>
-    requires { conn.old.in_transaction ≡ false }
-    ensures ended { conn.new.in_transaction ≡ false }
-    ensures asked { AsksFor S.Store conn.old conn.new proxy_columns result }
-{
-    ask(
-        conn,
-        "SELECT seq, meeting, member, number, proxy, first, last, instructions, moment FROM appointments",
-    )?;
-    ask(
-        conn,
-        "SELECT seq, meeting, member, number, moment FROM endings",
-    )?;
-    ask(
-        conn,
-        "SELECT seq, meeting, corporation, person, moment FROM authorities",
-    )?;
-    ask(conn, "SELECT seq, meeting, party, moment FROM presences")
-}
-
-/// Asks for the columns of demands, polls and votes.
-fn ask_polls<S: Alter>(conn: &mut Connection<S>) -> Result<(), ColumnError>
-    requires { conn.old.in_transaction ≡ false }
-    ensures ended { conn.new.in_transaction ≡ false }
-    ensures asked { AsksFor S.Store conn.old conn.new poll_columns result }
-{
-    ask(
-        conn,
-        "SELECT seq, meeting, resolution, party, moment FROM demands",
-    )?;
-    ask(
-        conn,
-        "SELECT meeting, resolution, ordered, take, chair, started, closed, votes_for, votes_against, withheld, eligible FROM polls",
-    )?;
-    ask(
-        conn,
-        "SELECT seq, meeting, resolution, voter, capacity, member, first, last, way, moment FROM casts",
-    )
-}
-
-/// Asks for the columns of the tables that version 2 adds.
-fn ask_sessions<S: Alter>(conn: &mut Connection<S>) -> Result<(), ColumnError>
-    requires { conn.old.in_transaction ≡ false }
-    ensures ended { conn.new.in_transaction ≡ false }
-    ensures asked { AsksFor S.Store conn.old conn.new session_columns result }
-{
-    ask(
-        conn,
-        "SELECT meeting, number, appointed, opened FROM sessions",
-    )?;
-    ask(
-        conn,
-        "SELECT seq, meeting, session, party, moment FROM presences2",
-    )?;
-    ask(
-        conn,
-        "SELECT seq, meeting, session, resolution, party, moment FROM demands2",
-    )?;
-    ask(
-        conn,
-        "SELECT meeting, session, resolution, ordered, take, chair, started, closed, votes_for, votes_against, withheld, eligible FROM polls2",
-    )
+    ask(conn, first)?;
+    for sql in more {
+        ask(conn, sql)?;
+    }
+    Ok(())
 }
 
 /// Whether each column that is read of tables of version 1 stands. No statement is run.
 pub fn ask_columns_one<S: Alter>(conn: &mut Connection<S>) -> Result<(), ColumnError>
     requires { conn.old.in_transaction ≡ false }
     ensures ended { conn.new.in_transaction ≡ false }
-    ensures asked { AsksFor S.Store conn.old conn.new
-        (meeting_columns ++ proxy_columns ++ poll_columns) result }
+    ensures asked { AsksFor S.Store conn.old conn.new (map asking_text asked_one) result }
 {
-    ask_meetings(conn)?;
-    ask_proxy_columns(conn)?;
-    ask_polls(conn)
+    ask_each(
+        conn,
+        "SELECT one, version FROM desk",
+        &[
+            "SELECT party, secret FROM keys",
+            "SELECT day FROM closed",
+            "SELECT seq, meeting, company, kind, given, appointed, record, loaded, opened FROM meetings",
+            "SELECT meeting, number, kind, body FROM resolutions",
+            "SELECT meeting, member, kind, name, shares, paid FROM register",
+            "SELECT seq, meeting, member, number, proxy, first, last, instructions, moment FROM appointments",
+            "SELECT seq, meeting, member, number, moment FROM endings",
+            "SELECT seq, meeting, corporation, person, moment FROM authorities",
+            "SELECT seq, meeting, party, moment FROM presences",
+            "SELECT seq, meeting, resolution, party, moment FROM demands",
+            "SELECT meeting, resolution, ordered, take, chair, started, closed, votes_for, votes_against, withheld, eligible FROM polls",
+            "SELECT seq, meeting, resolution, voter, capacity, member, first, last, way, moment FROM casts",
+        ],
+    )
 }
 
 /// Whether each column that is read stands. No statement is run.
 pub fn ask_columns<S: Alter>(conn: &mut Connection<S>) -> Result<(), ColumnError>
     requires { conn.old.in_transaction ≡ false }
     ensures ended { conn.new.in_transaction ≡ false }
-    ensures asked { AsksFor S.Store conn.old conn.new
-        ((meeting_columns ++ proxy_columns ++ poll_columns) ++ session_columns) result }
+    ensures asked { AsksFor S.Store conn.old conn.new (map asking_text asked_two) result }
 {
     ask_columns_one(conn)?;
-    ask_sessions(conn)
+    ask_each(
+        conn,
+        "SELECT meeting, number, appointed, opened FROM sessions",
+        &[
+            "SELECT seq, meeting, session, party, moment FROM presences2",
+            "SELECT seq, meeting, session, resolution, party, moment FROM demands2",
+            "SELECT meeting, session, resolution, ordered, take, chair, started, closed, votes_for, votes_against, withheld, eligible FROM polls2",
+        ],
+    )
 }
 
 /// Over the tables of a desk each column that is read stands, whatever other tables, indexes and

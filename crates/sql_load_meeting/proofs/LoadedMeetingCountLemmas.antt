@@ -1,23 +1,27 @@
 -- How many meetings there are, and whether one has a name, from the rows of the meetings.
-use Rattle.std.proofs.Common.{◌≡◌, ℕ, suc, Bool, true, false, cond, ◌||◌, List, [], ◌∷◌, length, find, Option, Some, None, refl, ap, ◌∙◌}
-use Rattle.std.specs.List.{list_any}
-use Rattle.std.specs.Prelude.{is_some}
+use Rattle.std.proofs.Common.{◌≡◌, ◌≤◌, ℕ, suc, true, List, [], ◌∷◌, filter, length, nat_le, find, Option, Some, None, IsTrue, refl, ap, ◌∙◌, arith}
+use Rattle.std.specs.Prelude.{is_some, slice_get}
+use Rattle.std.proofs.Math.Nat.{min-eq_left}
+use Rattle.std.proofs.lemmas.Bool.Decides.{nat_tests}
 use Rattle.desk_words.specs.Finding.{meeting_named}
+use Rattle.desk_words.specs.Office.{is_office}
 use Rattle.desk_words.specs.declared.office.MeetingLists.{MeetingLists}
 use Rattle.desk_words.specs.declared.office.OfficeLists.{OfficeLists}
 use Rattle.sql_rows.specs.declared.stored_records.MeetingRow.{MeetingRow}
 use Rattle.sql_rows.proofs.RowMeaningLemmas.{bound}
 use Rattle.sql_model.specs.OfficeRecords.{FlatLists, lists_of, lists_of_all}
 use Rattle.sql_model.proofs.ModelOfficeLemmas.{AreOf}
+use Rattle.desk_words.proofs.OfficeFacts.{office_facts}
+use Rattle.sql_queries.specs.CountedRecords.{most}
+use Rattle.sql_load_public.proofs.FoundRecordLemmas.{first_passing}
 use Rattle.sql_load_public.proofs.NamedMeetingLemmas.{IsFoundAs, has_name, meeting_found}
 
--- one passes where one is found
-any_found : {X : Type 0} (test : X → Bool) (xs : List X) → list_any test xs ≡ is_some (find test xs)
-any_found test [] = refl
-any_found test (x ∷ xs) = elim (test x) as (λ b. (b || list_any test xs) ≡ is_some (cond b (Some x) (find test xs))) [ true ↦ refl | false ↦ any_found test xs ]
+-- a row has the name where a meeting has
+abbrev pub IsNamed : List ℕ → OfficeLists → List MeetingRow → Type 0
+IsNamed id office rows = is_some (slice_get rows 0) ≡ is_some (meeting_named office.meetings id)
 
-named_so : (id : List ℕ) (flat : FlatLists) (office : OfficeLists) → AreOf flat office → list_any (has_name id) flat.meetings ≡ is_some (meeting_named office.meetings id)
-named_so id flat office of = any_found (has_name id) flat.meetings ∙ go (meeting_named office.meetings id) (meeting_found flat office id of)
+pub named_so : (id : List ℕ) (flat : FlatLists) (office : OfficeLists) → AreOf flat office → IsNamed id office (filter (has_name id) flat.meetings)
+named_so id flat office of = ap is_some (first_passing (has_name id) flat.meetings) ∙ go (meeting_named office.meetings id) (meeting_found flat office id of)
   where
     go : (found : Option MeetingLists) → IsFoundAs flat id flat.meetings found → is_some (find (has_name id) flat.meetings) ≡ is_some found
     go None none = ap is_some none
@@ -31,9 +35,14 @@ as_many flat (row ∷ rows) lists h =
     let are : first.0 ∷ later.0 ≡ lists = cc in
     ap suc (as_many flat rows later.0 later.1) ∙ ap length are
 
--- whether a row has the name is whether a meeting has, and there are as many
-abbrev pub AreCounted : List ℕ → OfficeLists → List MeetingRow → Type 0
-AreCounted id office rows = (list_any (has_name id) rows ≡ is_some (meeting_named office.meetings id)) × (length rows ≡ length office.meetings)
+all_pass : {X : Type 0} (xs : List X) → filter (λ _. true) xs ≡ xs
+all_pass [] = refl
+all_pass (x ∷ xs) = ap (λ l. x ∷ l) (all_pass xs)
 
-pub counted : (id : List ℕ) (flat : FlatLists) (office : OfficeLists) → AreOf flat office → AreCounted id office flat.meetings
-counted id flat office of = (named_so id flat office of, as_many flat flat.meetings office.meetings of.lists)
+-- as many rows are counted as there are meetings
+pub held_so : (flat : FlatLists) (office : OfficeLists) → AreOf flat office → IsTrue (is_office office) → most (length (filter (λ _. true) flat.meetings)) ≡ length office.meetings
+held_so flat office of preserved =
+    let same = ap length (all_pass flat.meetings) ∙ as_many flat flat.meetings office.meetings of.lists in
+    let few : nat_le (length office.meetings) 100 ≡ true = (office_facts office preserved).few in
+    let small : length office.meetings ≤ 100 = grind (arith, nat_tests, few) in
+    ap most same ∙ min-eq_left (omega (arith, small))

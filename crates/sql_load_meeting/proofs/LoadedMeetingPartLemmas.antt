@@ -8,43 +8,55 @@ use Rattle.desk_words.specs.Registers.{is_register}
 use Rattle.desk_words.specs.Sessions.{is_opened}
 use Rattle.desk_words.specs.declared.office.MeetingLists.{MeetingLists}
 use Rattle.desk_words.specs.declared.office.OfficeLists.{OfficeLists}
+use Rattle.desk_words.specs.declared.records.Meeting.{Meeting}
+use Rattle.desk_words.specs.declared.records.Poll.{Poll}
 use Rattle.desk_words.specs.declared.records.RegisterRow.{RegisterRow}
 use Rattle.desk_words.proofs.OfficeFacts.{found_facts}
 use Rattle.desk_words.specs.declared.request.OfficeRequest.{OfficeRequest}
 use Rattle.sqlite.specs.Held.{Held}
 use Rattle.sqlite_trees.specs.declared.store.Store as store
-use Rattle.party_views.specs.Views.{meeting_at}
-use Rattle.office_decisions.specs.ListsRead.{days_read, lists_read, polls_alone}
+use Rattle.party_views.specs.Views.{meeting_at, polls_in}
+use Rattle.office_decisions.specs.ListsRead.{days_read, first_read, lists_read, with_polls}
+use Rattle.party_views.specs.PublicRead.{counted_up_to}
 use Rattle.row_source.specs.LookUps.{register_in}
 use Rattle.sql_assemble.specs.declared.fault.LoadError.{LoadError}
+use Rattle.sql_load_public.specs.MeetingRecords.{AreOnItsResolutions}
 use Rattle.sql_load_public.specs.TableLookUps.{HoldsOfStoredOffice}
-use Rattle.sql_load_public.proofs.NamedMeetingLemmas.{the_same}
 use Rattle.sql_load_public.proofs.StoredOfficeLemmas.{returns_weaker}
 use Rattle.sql_load_meeting.specs.MeetingParts.{AreReadFor, IsReadWith}
 
-module _ {X : Type 0} (before : MeetingLists → X) (after : MeetingLists → MeetingLists) where
-  -- where there is no meeting, nothing is made of it
-  pub none_so : (found : Option MeetingLists) → None ≡ option_map before found → None ≡ option_map after found
-  none_so None e = refl
-  none_so (Some m) e = absurd cc
+-- the meeting that is found, or none, with these polls
+pub with_these : (on : Option ℕ) (polls : List Poll) (found : Option MeetingLists) (read : Option Meeting) → read ≡ option_map (counted_up_to on) (option_map (λ (m : MeetingLists). m.meeting) found)
+    → option_map (λ (m : Meeting). with_polls m polls) read ≡ option_map (λ (m : MeetingLists). with_polls (counted_up_to on m.meeting) polls) found
+with_these on polls None read is = ap (option_map (λ (m : Meeting). with_polls m polls)) is
+with_these on polls (Some m) read is = ap (option_map (λ (m : Meeting). with_polls m polls)) is
 
-  -- what was told of a meeting, with a list more
-  pub joined : {Y : Type 0} (part : Option MeetingLists → Y) (join : X → Y → MeetingLists) → ((m : MeetingLists) → join (before m) (part (Some m)) ≡ after m)
-      → (found : Option MeetingLists) (x : X) (y : Y) → Some x ≡ option_map before found → y ≡ part found → Some (join x y) ≡ option_map after found
-  joined part join same None x y e is = absurd cc
-  joined part join same (Some m) x y e is = let its : x ≡ before m = the_same e in (λ i. Some (join (its i) (is i))) ∙ ap (λ (z : MeetingLists). Some z) (same m)
+-- and with those of its polls that were read
+pub with_its : (on : Option ℕ) (part : List Poll → List Poll) (found : Option MeetingLists) (polls : List Poll) → polls ≡ part (polls_in found)
+    → option_map (λ (m : MeetingLists). with_polls (counted_up_to on m.meeting) polls) found ≡ option_map (λ (m : MeetingLists). with_polls (counted_up_to on m.meeting) (part m.polls)) found
+with_its on part None polls is = refl
+with_its on part (Some m) polls is = ap (λ l. Some (with_polls (counted_up_to on m.meeting) l)) is
 
--- what is told of a meeting that is read with its polls is what the request reads of it, where it is so of each meeting
+-- the meeting that is found, if one is, with these polls, where they are on its resolutions
+abbrev pub IsWith : Option ℕ → List ℕ → List Poll → OfficeLists → Option MeetingLists → Type 0
+IsWith on id polls office lists =
+    AreOnItsResolutions (meeting_at office id) polls → lists ≡ option_map (λ (m : MeetingLists). with_polls (counted_up_to on m.meeting) polls) (meeting_at office id)
+
+-- or with these of its polls
+abbrev pub IsWithPart : Option ℕ → List ℕ → (List Poll → List Poll) → OfficeLists → Option MeetingLists → Type 0
+IsWithPart on id part office lists = lists ≡ option_map (λ (m : MeetingLists). with_polls (counted_up_to on m.meeting) (part m.polls)) (meeting_at office id)
+
+-- what is told of a meeting once what is read first is read is what the request reads of it, where it is so of each meeting
 module _ {S : Type 0} (g : store.Ghosts S) (a b : Held S) (r : Result (List ℕ) LoadError) (asked what : OfficeRequest) (is_what : asked ≡ what) (id : List ℕ) (polls new : MeetingLists) (days : List ℕ → List ℕ) (rest : MeetingLists → Option MeetingLists → MeetingLists)
-    (closed : (all : List ℕ) → days all ≡ days_read what all) (lists : (m : MeetingLists) → rest (polls_alone m) (Some m) ≡ lists_read what m) where
-  read_for : (office : OfficeLists) (found : List ℕ) → IsReadWith found (days office.closed) new (rest polls (meeting_at office id)) → (m : MeetingLists) → meeting_at office id ≡ Some m → polls ≡ polls_alone m → AreReadFor asked office m (record { closed = found; lists = new })
+    (closed : (all : List ℕ) → days all ≡ days_read what all) (lists : (m : MeetingLists) → rest (first_read what m) (Some m) ≡ lists_read what m) where
+  read_for : (office : OfficeLists) (found : List ℕ) → IsReadWith found (days office.closed) new (rest polls (meeting_at office id)) → (m : MeetingLists) → meeting_at office id ≡ Some m → polls ≡ first_read asked m → AreReadFor asked office m (record { closed = found; lists = new })
   read_for office found is m there alone = subst (λ (it : OfficeRequest). AreReadFor it office m (record { closed = found; lists = new })) (sym is_what) (record {
     closed = is.0 ∙ closed office.closed;
-    lists = is.1 ∙ ap₂ rest alone there ∙ lists m;
+    lists = is.1 ∙ ap₂ rest (alone ∙ ap (λ (it : OfficeRequest). first_read it m) is_what) there ∙ lists m;
   })
 
   pub rest_returned : HoldsOfStoredOffice g a b r (λ office found. IsReadWith found (days office.closed) new (rest polls (meeting_at office id)))
-      → HoldsOfStoredOffice g a b r (λ office found. (m : MeetingLists) → meeting_at office id ≡ Some m → polls ≡ polls_alone m → AreReadFor asked office m (record { closed = found; lists = new }))
+      → HoldsOfStoredOffice g a b r (λ office found. (m : MeetingLists) → meeting_at office id ≡ Some m → polls ≡ first_read asked m → AreReadFor asked office m (record { closed = found; lists = new }))
   rest_returned one = record {
     holds = λ read office holds preserved. returns_weaker _ _ r (read_for office) (one.holds read office holds preserved);
     same = one.same;

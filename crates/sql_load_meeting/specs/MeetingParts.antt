@@ -1,27 +1,18 @@
--- A meeting with its polls, and with the lists that a request reads besides. For private contracts.
-use Rattle.std.specs.Prelude.{◌≡◌, ◌==◌, [], ℕ, List, Option, filter}
-use Rattle.desk_words.specs.ViewTypes.{Number}
+-- A meeting with the lists that a request reads besides. For private contracts.
+use Rattle.std.specs.Prelude.{◌≡◌, ℕ, List, Option}
+use Rattle.std.specs.Option.{option_map_or}
 use Rattle.desk_words.specs.declared.office.MeetingLists.{MeetingLists}
 use Rattle.desk_words.specs.declared.office.OfficeLists.{OfficeLists}
 use Rattle.desk_words.specs.declared.records.Meeting.{Meeting}
-use Rattle.desk_words.specs.declared.records.Poll.{Poll}
 use Rattle.desk_words.specs.declared.request.OfficeRequest.{OfficeRequest}
 use Rattle.office_decisions.specs.ListsRead.{days_read, lists_read}
 use Rattle.row_source.specs.LookUps.{appointments_in, authorities_in, endings_in, register_in}
 use Rattle.sql_load_meeting.specs.declared.needed_lists.OfficeReads.{OfficeReads}
 
--- a meeting with its polls
-abbrev pub meeting_with : Meeting → List Poll → MeetingLists
-meeting_with meeting polls = record {
-  meeting = meeting;
-  register = [];
-  appointments = [];
-  endings = [];
-  authorities = [];
-  presences = [];
-  demands = [];
-  polls = polls;
-  casts = [];
+-- the lists of a meeting with what is read of the meeting that is found; where none is, as before
+abbrev pub with_meeting_of : (Meeting → Meeting) → Option MeetingLists → MeetingLists → MeetingLists
+with_meeting_of read found m = record m {
+  meeting = option_map_or (λ (held : MeetingLists). read held.meeting) found m.meeting;
 }
 
 -- a meeting with the lists by which shares are counted, those of the meeting that is found; where
@@ -33,10 +24,6 @@ with_shares_of found m = record m {
   endings = endings_in found;
   authorities = authorities_in found;
 }
-
--- those of the polls that are on a resolution
-abbrev pub polls_on : Number → List Poll → List Poll
-polls_on resolution polls = filter (λ (poll : Poll). poll.resolution == resolution) polls
 
 -- these are the closed days and the lists that are read
 abbrev pub IsReadWith : List ℕ → List ℕ → MeetingLists → MeetingLists → Type 0

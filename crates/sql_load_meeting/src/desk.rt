@@ -1,17 +1,16 @@
 //! What the office's requests of the whole desk read.
 ghost use Rattle.std.specs.Prelude.{◌≡◌, is_some, length};
-ghost use Rattle.std.specs.List.{list_any};
-ghost use Rattle.vocabulary.specs.Names.{same_name};
-ghost use Rattle.sql_rows.specs.declared.stored_records.MeetingRow.{MeetingRow};
 ghost use Rattle.party_views.specs.Views.{meeting_at};
 ghost use Rattle.sql_load_public.specs.TableLookUps.{HoldsOfStoredOffice};
 
-use desk_words::{KeyRows, MeetingId};
+use desk_words::{KeyRows, Listing, MeetingId};
 use sql_assemble::{LoadError, key_rows};
 use sql_desk_tables::keys::Keys;
-use sql_desk_tables::meetings::Meetings;
 use sql_load_office::listing;
+use sql_load_public::query_records::{counted, first, records_found};
+use sql_queries::meetings;
 use sql_rows::MeetingRow;
+use sql_stored::find;
 use sqlite::{Alter, Transaction};
 use std::alloc::Global;
 
@@ -34,15 +33,30 @@ pub fn read_keys<S: Alter>(tx: &mut Transaction<'_, S>, alloc: Global) -> Result
     key_rows(rows)
 }
 
-/// Whether one of the rows has the name.
-fn is_named(rows: &[MeetingRow], meeting: MeetingId) -> bool
-    ensures { result ≡ list_any (λ (row : MeetingRow). same_name row.id meeting) rows.now }
+/// Whether a meeting has the name.
+fn is_named<S: Alter>(
+    tx: &mut Transaction<'_, S>,
+    alloc: Global,
+    meeting: MeetingId,
+) -> Result<bool, LoadError>
+    ensures same_reference { tx.new.conn.ghost_name ≡ tx.old.conn.ghost_name }
+    ensures holds { HoldsOfStoredOffice S.Store tx.old.conn.now tx.new.conn.now result
+        (λ office named. named ≡ is_some (meeting_at office meeting)) }
 {
-    rows.iter().any(|row| row.id.is(meeting))
+    let rows: Listing<MeetingRow> = records_found(alloc, find::<meetings::Named, S>(tx, meeting))?;
+    Ok(first(rows).is_some())
 }
 
-/// How many meetings there are, and whether one has a name. Of each its own row is read, and none
-/// of its lists.
+/// How many meetings there are.
+fn held<S: Alter>(tx: &mut Transaction<'_, S>) -> Result<usize, LoadError>
+    ensures same_reference { tx.new.conn.ghost_name ≡ tx.old.conn.ghost_name }
+    ensures holds { HoldsOfStoredOffice S.Store tx.old.conn.now tx.new.conn.now result
+        (λ office held. held ≡ length office.meetings) }
+{
+    counted(meetings::count(tx))
+}
+
+/// How many meetings there are, and whether one has a name. No meeting is read but that of the name.
 pub fn read_count<S: Alter>(
     tx: &mut Transaction<'_, S>,
     alloc: Global,
@@ -56,9 +70,7 @@ pub fn read_count<S: Alter>(
           held = length office.meetings;
         }) }
 {
-    let rows = listing::<Meetings, S>(tx, alloc)?;
-    Ok(MeetingCount {
-        is_named: is_named(rows.as_slice(), meeting),
-        held: rows.len(),
-    })
+    let is_named = is_named(tx, alloc, meeting)?;
+    let held = held(tx)?;
+    Ok(MeetingCount { is_named, held })
 }

@@ -1,5 +1,5 @@
-//! What the tables hold of one meeting for the office's calls: the meeting with its polls, and then
-//! those of its other lists that the answer to a request still reads.
+//! What the tables hold of one meeting for the office's calls: what decides whether a request is
+//! refused at once, and then those of the meeting's lists that the answer still reads.
 #![tactic(auto)]
 
 mod by_receipt;
@@ -9,5 +9,5 @@ mod parts;
 
 pub use desk::{MeetingCount, read_count, read_keys};
 pub use needed_lists::{OfficeReads, read_rest};
-pub use parts::read_polls;
+pub use parts::read_first;
 pub use sql_load_public::read_closed;

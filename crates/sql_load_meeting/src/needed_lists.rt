@@ -1,17 +1,19 @@
 //! Those of the closed days and of a meeting's lists that the answer to a request of the office
-//! reads, once the meeting and its polls are read.
+//! reads, once what it reads first is read.
 ghost use Rattle.std.specs.Prelude.{◌≡◌, [], Some, filter};
 ghost use Rattle.desk_words.specs.declared.office.MeetingLists.{MeetingLists};
 ghost use Rattle.party_views.specs.Views.{meeting_at};
-ghost use Rattle.office_decisions.specs.ListsRead.{polls_alone};
+ghost use Rattle.party_views.specs.PublicRead.{counted};
+ghost use Rattle.office_decisions.specs.ListsRead.{first_read};
 ghost use Rattle.sql_load_public.specs.TableLookUps.{HoldsOfStoredOffice};
 ghost use Rattle.proxy_rules.specs.Parties.{is_presence_of};
 ghost use Rattle.row_source.specs.LookUps.{casts_in, demands_in, presences_in, register_in};
 ghost use Rattle.vote_rules.specs.TallyLaws.{casts_on};
-ghost use Rattle.sql_load_meeting.specs.MeetingParts.{AreReadFor, IsReadWith, polls_on, with_shares_of};
+ghost use Rattle.sql_load_meeting.specs.MeetingParts.{AreReadFor, IsReadWith, with_meeting_of, with_shares_of};
 
 use crate::parts::{
-    add_casts, add_demands, add_presence, add_presences, add_register, add_shares, keep_polls_on,
+    add_casts, add_count, add_demands, add_presence, add_presences, add_register, add_resolutions,
+    add_shares,
 };
 use desk_words::{DayList, MeetingId, MeetingLists, OfficeRequest, Party};
 use office_days::Closed;
@@ -92,12 +94,14 @@ fn for_opening<S: Alter>(
 ) -> Result<Closed, LoadError>
     ensures same_reference { tx.new.conn.ghost_name ≡ tx.old.conn.ghost_name }
     ensures holds { HoldsOfStoredOffice S.Store tx.old.conn.now tx.new.conn.now result
-        (λ office closed. IsReadWith closed office.closed
-        lists.new (record (with_shares_of (meeting_at office meeting) lists.old) {
-          presences = presences_in (meeting_at office meeting);
+        (λ office closed. let found = meeting_at office meeting in
+        IsReadWith closed office.closed
+        lists.new (record (with_shares_of found (with_meeting_of counted found lists.old)) {
+          presences = presences_in found;
         })) }
 {
     let closed = read_closed(tx, alloc)?;
+    add_count(tx, alloc, meeting, lists)?;
     add_shares(tx, alloc, meeting, lists)?;
     add_presences(tx, alloc, meeting, lists)?;
     Ok(closed)
@@ -112,12 +116,14 @@ fn for_demand<S: Alter>(
 ) -> Result<Closed, LoadError>
     ensures same_reference { tx.new.conn.ghost_name ≡ tx.old.conn.ghost_name }
     ensures holds { HoldsOfStoredOffice S.Store tx.old.conn.now tx.new.conn.now result
-        (λ office closed. IsReadWith closed office.closed
-        lists.new (record (with_shares_of (meeting_at office meeting) lists.old) {
-          demands = demands_in (meeting_at office meeting);
+        (λ office closed. let found = meeting_at office meeting in
+        IsReadWith closed office.closed
+        lists.new (record (with_shares_of found (with_meeting_of counted found lists.old)) {
+          demands = demands_in found;
         })) }
 {
     let closed = read_closed(tx, alloc)?;
+    add_count(tx, alloc, meeting, lists)?;
     add_shares(tx, alloc, meeting, lists)?;
     add_demands(tx, alloc, meeting, lists)?;
     Ok(closed)
@@ -133,14 +139,14 @@ fn for_count<S: Alter>(
 ) -> Result<Closed, LoadError>
     ensures same_reference { tx.new.conn.ghost_name ≡ tx.old.conn.ghost_name }
     ensures holds { HoldsOfStoredOffice S.Store tx.old.conn.now tx.new.conn.now result
-        (λ office closed. IsReadWith closed office.closed
-        lists.new (record (with_shares_of (meeting_at office meeting) lists.old) {
-          polls = polls_on resolution lists.old.polls;
-          casts = casts_on resolution (casts_in (meeting_at office meeting));
+        (λ office closed. let found = meeting_at office meeting in
+        IsReadWith closed office.closed
+        lists.new (record (with_shares_of found (with_meeting_of (λ m. m) found lists.old)) {
+          casts = casts_on resolution (casts_in found);
         })) }
 {
     let closed = read_closed(tx, alloc)?;
-    keep_polls_on(alloc, resolution, lists);
+    add_resolutions(tx, alloc, meeting, lists)?;
     add_shares(tx, alloc, meeting, lists)?;
     add_casts(tx, alloc, meeting, resolution, lists)?;
     Ok(closed)
@@ -158,7 +164,7 @@ fn read_into<S: Alter>(
     ensures same_reference { tx.new.conn.ghost_name ≡ tx.old.conn.ghost_name }
     ensures holds { HoldsOfStoredOffice S.Store tx.old.conn.now tx.new.conn.now result
         (λ office closed. (m : MeetingLists) → meeting_at office meeting ≡ Some m
-        → lists.old ≡ polls_alone m
+        → lists.old ≡ first_read asked.now m
         → AreReadFor asked.now office m (record { closed = closed; lists = lists.new })) }
 {
     match asked {
@@ -173,8 +179,8 @@ fn read_into<S: Alter>(
     }
 }
 
-/// What the answer to a request of the office in a meeting reads, once the meeting and its polls
-/// are read: its other lists as far as they are asked for, and the closed days.
+/// What the answer to a request of the office in a meeting reads, once what it reads first is read:
+/// the meeting's other lists as far as they are asked for, and the closed days.
 pub fn read_rest<S: Alter>(
     tx: &mut Transaction<'_, S>,
     alloc: Global,
@@ -185,7 +191,7 @@ pub fn read_rest<S: Alter>(
     ensures same_reference { tx.new.conn.ghost_name ≡ tx.old.conn.ghost_name }
     ensures holds { HoldsOfStoredOffice S.Store tx.old.conn.now tx.new.conn.now result
         (λ office read. (m : MeetingLists) → meeting_at office meeting ≡ Some m
-        → lists ≡ polls_alone m → AreReadFor asked.now office m read) }
+        → lists ≡ first_read asked.now m → AreReadFor asked.now office m read) }
 {
     let closed = read_into(tx, alloc, meeting, asked, &mut lists)?;
     Ok(OfficeReads { closed, lists })

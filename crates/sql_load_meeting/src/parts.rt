@@ -1,25 +1,29 @@
-//! A meeting with its polls, and with the lists that a request reads besides.
-ghost use Rattle.std.specs.Prelude.{◌≡◌, filter, option_map};
+//! What is read of a meeting first, and the lists that a request reads besides.
+ghost use Rattle.std.specs.Prelude.{◌≡◌, [], None, filter, option_map};
+ghost use Rattle.desk_words.specs.declared.office.MeetingLists.{MeetingLists};
+ghost use Rattle.party_views.specs.PublicRead.{counted, counted_up_to};
 ghost use Rattle.party_views.specs.Views.{meeting_at};
-ghost use Rattle.office_decisions.specs.ListsRead.{polls_alone};
+ghost use Rattle.office_decisions.specs.ListsRead.{first_read, poll_alone, with_polls};
 ghost use Rattle.row_source.specs.LookUps.{appointments_in, authorities_in, casts_in, demands_in, endings_in, presences_in, register_in};
 ghost use Rattle.sql_load_public.specs.TableLookUps.{HoldsOfStoredOffice};
 ghost use Rattle.proxy_rules.specs.Parties.{is_presence_of};
 ghost use Rattle.vote_rules.specs.TallyLaws.{casts_on};
-ghost use Rattle.sql_load_meeting.specs.MeetingParts.{meeting_with, polls_on, with_shares_of};
+ghost use Rattle.sql_load_public.specs.MeetingRecords.{AreOnItsResolutions};
+ghost use Rattle.sql_load_meeting.specs.MeetingParts.{with_meeting_of, with_shares_of};
 
 use crate::by_receipt::{
     appointments_of, authorities_of, casts_on, demands_of, endings_of, presence_of, presences_of,
 };
-use desk_words::{Filed, Listing, Meeting, MeetingId, MeetingLists, Party, Poll, RegisterRow};
+use desk_words::{
+    Filed, Listing, Meeting, MeetingId, MeetingLists, OfficeRequest, Party, Poll, RegisterRow,
+};
 use sql_assemble::{LoadError, register_rows};
 use sql_load_public::query_records::{items, records_found};
-use sql_load_public::{meeting_of, polls_of};
+use sql_load_public::{counted_of, meeting_for, meeting_of, polls_of, polls_on};
 use sql_queries::register;
 use sql_stored::find;
 use sqlite::{Alter, Transaction};
 use std::alloc::Global;
-use std::mem;
 
 /// The register of a meeting (section 113), in the order of members.
 fn register_of<S: Alter>(
@@ -38,9 +42,9 @@ fn register_of<S: Alter>(
     register_rows(rows)
 }
 
-/// A meeting with its polls.
-fn meeting_with(alloc: Global, meeting: Meeting, polls: Listing<Poll>) -> MeetingLists
-    ensures { result ≡ meeting_with meeting polls }
+/// A meeting with these polls, and nothing in place of its other lists.
+fn with_polls(alloc: Global, meeting: Meeting, polls: Listing<Poll>) -> MeetingLists
+    ensures { result ≡ with_polls meeting polls }
 {
     MeetingLists {
         meeting,
@@ -55,22 +59,132 @@ fn meeting_with(alloc: Global, meeting: Meeting, polls: Listing<Poll>) -> Meetin
     }
 }
 
-/// The meeting of a name with its sessions, its resolutions and its polls, and nothing in place of
-/// its other lists; where there is none of that name, none.
-pub fn read_polls<S: Alter>(
+/// The meeting of a name with its sessions and these of its polls, if there is one: of its
+/// resolutions it is read whether the one that is asked for is among them.
+fn meeting_with<S: Alter>(
+    tx: &mut Transaction<'_, S>,
+    alloc: Global,
+    meeting: MeetingId,
+    on: Option<u64>,
+    polls: Listing<Poll>,
+) -> Result<Option<MeetingLists>, LoadError>
+    ensures same_reference { tx.new.conn.ghost_name ≡ tx.old.conn.ghost_name }
+    ensures holds { HoldsOfStoredOffice S.Store tx.old.conn.now tx.new.conn.now result
+        (λ office lists. AreOnItsResolutions (meeting_at office meeting) polls
+        → lists ≡ option_map
+        (λ (m : MeetingLists). with_polls (counted_up_to on m.meeting) polls)
+        (meeting_at office meeting)) }
+{
+    let Some(found) = meeting_for(tx, alloc, meeting, on, polls.as_slice())? else {
+        return Ok(None);
+    };
+    Ok(Some(with_polls(alloc, found, polls)))
+}
+
+/// The meeting of a name with its sessions alone.
+fn meeting_alone<S: Alter>(
     tx: &mut Transaction<'_, S>,
     alloc: Global,
     meeting: MeetingId,
 ) -> Result<Option<MeetingLists>, LoadError>
     ensures same_reference { tx.new.conn.ghost_name ≡ tx.old.conn.ghost_name }
     ensures holds { HoldsOfStoredOffice S.Store tx.old.conn.now tx.new.conn.now result
-        (λ office lists. lists ≡ option_map polls_alone (meeting_at office meeting)) }
+        (λ office lists. lists ≡ option_map
+        (λ (m : MeetingLists). with_polls (counted_up_to None m.meeting) [])
+        (meeting_at office meeting)) }
 {
-    let Some(found) = meeting_of(tx, alloc, meeting)? else {
-        return Ok(None);
-    };
+    meeting_with(tx, alloc, meeting, None, Listing::new(alloc))
+}
+
+/// The meeting of a name with its sessions and all of its polls.
+fn all_polls<S: Alter>(
+    tx: &mut Transaction<'_, S>,
+    alloc: Global,
+    meeting: MeetingId,
+) -> Result<Option<MeetingLists>, LoadError>
+    ensures same_reference { tx.new.conn.ghost_name ≡ tx.old.conn.ghost_name }
+    ensures holds { HoldsOfStoredOffice S.Store tx.old.conn.now tx.new.conn.now result
+        (λ office lists. lists ≡ option_map
+        (λ (m : MeetingLists). with_polls (counted_up_to None m.meeting) m.polls)
+        (meeting_at office meeting)) }
+{
     let polls = polls_of(tx, alloc, meeting)?;
-    Ok(Some(meeting_with(alloc, found, polls)))
+    meeting_with(tx, alloc, meeting, None, polls)
+}
+
+/// The meeting of a name with its sessions and the poll on a resolution.
+fn poll_alone<S: Alter>(
+    tx: &mut Transaction<'_, S>,
+    alloc: Global,
+    meeting: MeetingId,
+    resolution: u64,
+) -> Result<Option<MeetingLists>, LoadError>
+    ensures same_reference { tx.new.conn.ghost_name ≡ tx.old.conn.ghost_name }
+    ensures holds { HoldsOfStoredOffice S.Store tx.old.conn.now tx.new.conn.now result
+        (λ office lists. lists ≡ option_map (poll_alone resolution) (meeting_at office meeting)) }
+{
+    let polls = polls_on(tx, alloc, meeting, resolution)?;
+    meeting_with(tx, alloc, meeting, Some(resolution), polls)
+}
+
+/// What the answer to a request reads of a meeting first, by its name; where there is none of that
+/// name, none.
+pub fn read_first<S: Alter>(
+    tx: &mut Transaction<'_, S>,
+    alloc: Global,
+    meeting: MeetingId,
+    asked: &OfficeRequest,
+) -> Result<Option<MeetingLists>, LoadError>
+    ensures same_reference { tx.new.conn.ghost_name ≡ tx.old.conn.ghost_name }
+    ensures holds { HoldsOfStoredOffice S.Store tx.old.conn.now tx.new.conn.now result
+        (λ office lists. lists ≡ option_map (first_read asked.now) (meeting_at office meeting)) }
+{
+    match asked {
+        OfficeRequest::LoadRegister(_) | OfficeRequest::Presence(_) | OfficeRequest::OpenMeeting =>
+            meeting_alone(tx, alloc, meeting),
+        OfficeRequest::Adjourn(_) => all_polls(tx, alloc, meeting),
+        OfficeRequest::Order(new) => poll_alone(tx, alloc, meeting, new.resolution),
+        OfficeRequest::Start(resolution)
+        | OfficeRequest::Close(resolution)
+        | OfficeRequest::Declare(resolution) => poll_alone(tx, alloc, meeting, *resolution),
+    }
+}
+
+/// Puts as many resolutions as the meeting has, of which none is read, in place of those that stand
+/// in its lists.
+pub(crate) fn add_count<S: Alter>(
+    tx: &mut Transaction<'_, S>,
+    alloc: Global,
+    meeting: MeetingId,
+    lists: &mut MeetingLists,
+) -> Result<(), LoadError>
+    ensures same_reference { tx.new.conn.ghost_name ≡ tx.old.conn.ghost_name }
+    ensures holds { HoldsOfStoredOffice S.Store tx.old.conn.now tx.new.conn.now result
+        (λ office _. lists.new
+        ≡ with_meeting_of counted (meeting_at office meeting) lists.old) }
+{
+    if let Some(found) = counted_of(tx, alloc, meeting)? {
+        lists.meeting = found;
+    }
+    Ok(())
+}
+
+/// Reads the resolutions of a meeting, of which one is carried or not (sections 282 and 283).
+pub(crate) fn add_resolutions<S: Alter>(
+    tx: &mut Transaction<'_, S>,
+    alloc: Global,
+    meeting: MeetingId,
+    lists: &mut MeetingLists,
+) -> Result<(), LoadError>
+    ensures same_reference { tx.new.conn.ghost_name ≡ tx.old.conn.ghost_name }
+    ensures holds { HoldsOfStoredOffice S.Store tx.old.conn.now tx.new.conn.now result
+        (λ office _. lists.new
+        ≡ with_meeting_of (λ m. m) (meeting_at office meeting) lists.old) }
+{
+    if let Some(found) = meeting_of(tx, alloc, meeting)? {
+        lists.meeting = found;
+    }
+    Ok(())
 }
 
 /// Reads the register of a meeting into its lists. After a fault nothing is said of them.
@@ -222,21 +336,4 @@ pub(crate) fn add_casts<S: Alter>(
 {
     lists.casts = casts_on(tx, alloc, meeting, resolution)?;
     Ok(())
-}
-
-/// Those of the polls that are on a resolution, of which there is one at most.
-fn polls_on(polls: Listing<Poll>, resolution: u64) -> Listing<Poll>
-    ensures { result ≡ polls_on resolution polls }
-{
-    let mut on = polls.into_vec();
-    on.retain(|poll| poll.resolution == resolution);
-    Listing::from_vec(on)
-}
-
-/// Keeps of the polls that on a resolution alone.
-pub(crate) fn keep_polls_on(alloc: Global, resolution: u64, lists: &mut MeetingLists)
-    ensures { lists.new ≡ record lists.old { polls = polls_on resolution lists.old.polls } }
-{
-    let polls = mem::replace(&mut lists.polls, Listing::new(alloc));
-    lists.polls = polls_on(polls, resolution);
 }

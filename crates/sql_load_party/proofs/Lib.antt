@@ -1,2 +1,3 @@
+pub mod CountedCastLemmas
 pub mod LoadedPartyHomeLemmas
 pub mod LoadedPartyRowLemmas

@@ -6,7 +6,7 @@ ghost use Rattle.sql_assemble.specs.declared.fault.LoadError.TheVariants.{Memory
 ghost use Rattle.proxy_rules.specs.Holdings.{claim_of, is_ended_of, is_given_by};
 ghost use Rattle.proxy_rules.specs.Parties.{authorises, is_authority_of, is_cast_by, is_demanded_by, is_presence_of, names};
 ghost use Rattle.proxy_rules.specs.Shares.{row_of, shares_by, shares_of};
-ghost use Rattle.party_views.specs.RowsRead.{cast_on};
+ghost use Rattle.party_views.specs.OwnCasts.{cast_count};
 ghost use Rattle.party_views.specs.PartyRows.{presences_of};
 ghost use Rattle.party_views.specs.Views.{meeting_at};
 ghost use Rattle.row_source.specs.LookUps.{appointments_in, authorities_in, casts_by, casts_in, naming_by_in, trusting_for_in};
@@ -17,9 +17,10 @@ use desk_words::{
     Appointment, Authority, CastMark, DemandMark, Ending, Listing, MeetingId, Party, PresenceMark,
     RegisterRow,
 };
+use party_views::OwnCasts;
 use proxy_rules::{Claim, claims_in, shares};
 use sql_assemble::LoadError;
-use sql_load_public::query_records::{first, items, records_found};
+use sql_load_public::query_records::{counted, first, items, records_found};
 use sql_queries::{appointments, authorities, casts, demands, endings, presences, register};
 use sql_stored::find;
 use sqlite::{Alter, Transaction};
@@ -320,37 +321,23 @@ pub(crate) fn casts_of<S: Alter>(
     )
 }
 
-/// The votes on a resolution among these.
-fn among(casts: Listing<CastMark>, resolution: u64) -> Listing<CastMark>
-    ensures { result ≡ cast_on resolution casts }
-{
-    let mut found = casts.into_vec();
-    found.retain(|cast| cast.resolution == resolution);
-    Listing::from_vec(found)
-}
-
-/// The votes that a party cast on a resolution, in order of receipt. A number past those that a
-/// column holds is looked for among all of its votes.
-pub(crate) fn casts_on<S: Alter>(
+/// How many votes a party cast on a resolution. A number past those that a column holds is looked
+/// for among all of its votes.
+pub(crate) fn count_cast_on<S: Alter>(
     tx: &mut Transaction<'_, S>,
     alloc: Global,
     meeting: MeetingId,
     party: Party,
     resolution: u64,
-) -> Result<Listing<CastMark>, LoadError>
+) -> Result<usize, LoadError>
     ensures same_reference { tx.new.conn.ghost_name ≡ tx.old.conn.ghost_name }
     ensures holds { HoldsOfStoredOffice S.Store tx.old.conn.now tx.new.conn.now result
-        (λ office casts. casts ≡ cast_on resolution (casts_by (meeting_at office meeting) party)) }
+        (λ office count. count
+        ≡ cast_count (casts_by (meeting_at office meeting) party) resolution) }
 {
     if resolution >= 1 << 63 {
         let casts = casts_of(tx, alloc, meeting, party)?;
-        return Ok(among(casts, resolution));
+        return Ok(OwnCasts::All(casts).count_on(resolution));
     }
-    items(
-        alloc,
-        records_found(
-            alloc,
-            find::<casts::CastOn, S>(tx, (meeting, party, resolution)),
-        ),
-    )
+    counted(casts::count_cast_on(tx, meeting, party, resolution))
 }

@@ -11,7 +11,7 @@ ghost use Rattle.sql_load_public.specs.TableLookUps.{HoldsOfStoredOffice, IsLook
 ghost use Rattle.sql_load_party.specs.LookUpLaws as laws;
 
 use crate::look_ups::{
-    casts_of, casts_on, claims_by, count_given_by, demands_of, ended_by, given_by, naming,
+    casts_of, claims_by, count_cast_on, count_given_by, demands_of, ended_by, given_by, naming,
     naming_by, persons_of, presences_of, row_of, shares_of, trusting, trusting_for,
 };
 use desk_words::{
@@ -114,8 +114,8 @@ impl<S: Alter> RowSource for InTables<'_, '_, S> {
         casts_of(self.tx, self.alloc, self.meeting, party)
     }
 
-    fn casts_on(&mut self, party: Party, resolution: u64) -> Result<Listing<CastMark>, LoadError> {
-        casts_on(self.tx, self.alloc, self.meeting, party, resolution)
+    fn count_cast_on(&mut self, party: Party, resolution: u64) -> Result<usize, LoadError> {
+        count_cast_on(self.tx, self.alloc, self.meeting, party, resolution)
     }
 
     ghost still_shows = { λ a b keep trust found shown. laws.still_shows S.Store.own

@@ -18,6 +18,7 @@ use Rattle.sqlite_trees.specs.declared.store.Store as store
 use Rattle.seq.specs.Ordered.{ascends_by}
 use Rattle.seq.specs.Sorting.{sort_by}
 use Rattle.seq.proofs.Differing.{all_weaker}
+use Rattle.seq.proofs.Filtered.{all-filter}
 use Rattle.seq.proofs.SortingLemmas.{IsPermutation-sort_by}
 use Rattle.vocabulary.specs.Names.{same_name}
 use Rattle.vocabulary.specs.OptionSteps.{guard}
@@ -31,8 +32,6 @@ use Rattle.desk_words.specs.declared.records.Meeting.{Meeting}
 use Rattle.desk_words.specs.declared.records.Poll.{Poll}
 use Rattle.desk_words.specs.declared.records.Resolution.{Resolution}
 use Rattle.desk_words.specs.declared.records.Session.{Session}
-use Rattle.desk_words.specs.declared.request.PartyRequest.{PartyRequest}
-use Rattle.desk_words.specs.declared.request.PartyRequest.TheVariants.{Appoint, Demand, Cast, Instructed}
 use Rattle.desk_words.proofs.OfficeFacts.{find-passes, found_facts}
 use Rattle.sql_rows.specs.declared.stored_records.InMeeting.{InMeeting}
 use Rattle.sql_rows.specs.declared.stored_records.MeetingRow.{MeetingRow}
@@ -45,7 +44,8 @@ use Rattle.sql_model.specs.OfficeRecords.{FlatLists, flat_in, number_before, num
 use Rattle.sql_model.proofs.ModelOfficeLemmas.{AreOf, are_of}
 use Rattle.sql_assemble.specs.declared.fault.LoadError.{LoadError}
 use Rattle.sql_assemble.specs.LoadResults.{ReadAgrees, any_at_all, fault_of_error}
-use Rattle.party_views.specs.PublicRead.{meeting_read, stand_ins, unread, up_to, with_unread}
+use Rattle.party_views.specs.PublicRead.{stand_ins, unread, up_to, with_unread}
+use Rattle.party_views.specs.RowsRead.{polls_on}
 use Rattle.party_views.specs.Views.{polls_in}
 use Rattle.sql_load_public.specs.MeetingRecords.{AreOnItsResolutions, MayHave, are_on, last_number, later_in, may_have, without_meeting}
 use Rattle.sql_load_public.specs.TableLookUps.{HoldsOfStoredOffice, HoldsOrFails}
@@ -170,9 +170,10 @@ count_so id flat office of last is m found = last_counts (filter (λ (it : Store
 abbrev pub IsUnread : List ℕ → ℕ → OfficeLists → Option Meeting → Type 0
 IsUnread id count office preserved = MayHave (meeting_named office.meetings id) count → preserved ≡ option_map (with_unread count) (option_map (λ (m : MeetingLists). m.meeting) (meeting_named office.meetings id))
 
--- the meeting of that name, if there is one, its resolutions as the answer to a request asks for them
-abbrev pub IsReadFor : List ℕ → PartyRequest → OfficeLists → Option Meeting → Type 0
-IsReadFor id asked office preserved = preserved ≡ option_map (meeting_read asked) (option_map (λ (m : MeetingLists). m.meeting) (meeting_named office.meetings id))
+-- the meeting of that name, if there is one, with as many resolutions in place of its own as stand for so many
+abbrev pub IsReadAs : List ℕ → (ℕ → ℕ) → OfficeLists → Option Meeting → Type 0
+IsReadAs id stands office preserved =
+    preserved ≡ option_map (λ (m : Meeting). with_unread (stands (length m.resolutions)) m) (option_map (λ (m : MeetingLists). m.meeting) (meeting_named office.meetings id))
 
 -- the row with the further sessions and so many resolutions is the meeting with these in place of its own
 pub unread_so : (id : List ℕ) (office : OfficeLists) (meetings : List MeetingRow) (row : MeetingRow) → Some row ≡ slice_get meetings 0 → IsRow id office meetings
@@ -204,29 +205,28 @@ few_up_to number count few =
     ]) refl
 
 -- in place of as many as a meeting may have stand as many as it may have
-few_stand_in : (asked : PartyRequest) (count : ℕ) → may_have count ≡ true → may_have (stand_ins asked count) ≡ true
-few_stand_in (Appoint new) count few = few
-few_stand_in (Demand resolution) count few = few_up_to resolution count few
-few_stand_in (Cast new) count few = few_up_to new.resolution count few
-few_stand_in (Instructed resolution) count few = few_up_to resolution count few
-few_stand_in other count few = refl
+pub few_stand_in : (on : Option ℕ) (count : ℕ) → may_have count ≡ true → may_have (stand_ins on count) ≡ true
+few_stand_in (Some number) count few = few_up_to number count few
+few_stand_in None count few = refl
 
--- the meeting with the right number of resolutions is the meeting as it is asked for
-read_by : (asked : PartyRequest) (count : ℕ) (found : Option MeetingLists) → ((m : MeetingLists) → found ≡ Some m → count ≡ stand_ins asked (length m.meeting.resolutions))
-    → option_map (with_unread count) (option_map (λ (m : MeetingLists). m.meeting) found) ≡ option_map (meeting_read asked) (option_map (λ (m : MeetingLists). m.meeting) found)
-read_by asked count None is = refl
-read_by asked count (Some m) is = ap (λ n. Some (with_unread n m.meeting)) (is m refl)
+module _ (id : List ℕ) (stands : ℕ → ℕ) (office : OfficeLists) where
+  -- the meeting with the right number of resolutions is the meeting as it is asked for
+  read_as : (count : ℕ) (found : Option MeetingLists) → ((m : MeetingLists) → found ≡ Some m → count ≡ stands (length m.meeting.resolutions))
+      → option_map (with_unread count) (option_map (λ (m : MeetingLists). m.meeting) found) ≡ option_map (λ (m : Meeting). with_unread (stands (length m.resolutions)) m) (option_map (λ (m : MeetingLists). m.meeting) found)
+  read_as count None is = refl
+  read_as count (Some m) is = ap (λ n. Some (with_unread n m.meeting)) (is m refl)
 
--- where the resolutions were counted
-pub counted_read : (id : List ℕ) (asked : PartyRequest) (office : OfficeLists) → IsTrue (is_office office) → (count made : ℕ) → made ≡ stand_ins asked count → (preserved : Option Meeting) → IsUnread id made office preserved → HasCount id office count → IsReadFor id asked office preserved
-counted_read id asked office holds count made made_is preserved is has =
-    is (λ m found. ap may_have made_is ∙ ap (λ n. may_have (stand_ins asked n)) (has m found) ∙ few_stand_in asked (length m.meeting.resolutions) (found_facts office id m holds found).resolutions)
-    ∙ read_by asked made (meeting_named office.meetings id) (λ m found. made_is ∙ ap (stand_ins asked) (has m found))
+  -- where the resolutions were counted
+  pub counted_read : ((count : ℕ) → may_have count ≡ true → may_have (stands count) ≡ true) → IsTrue (is_office office) → (count made : ℕ) → made ≡ stands count → (preserved : Option Meeting) → IsUnread id made office preserved → HasCount id office count
+      → IsReadAs id stands office preserved
+  counted_read few holds count made made_is preserved is has =
+      is (λ m found. ap may_have made_is ∙ ap (λ n. may_have (stands n)) (has m found) ∙ few (length m.meeting.resolutions) (found_facts office id m holds found).resolutions)
+      ∙ read_as made (meeting_named office.meetings id) (λ m found. made_is ∙ ap stands (has m found))
 
--- and where the polls tell
-pub polled_read : (id : List ℕ) (asked : PartyRequest) (office : OfficeLists) (polls : List Poll) (count : ℕ) → may_have count ≡ true → ((all : ℕ) → are_on all polls ≡ true → count ≡ stand_ins asked all)
-    → (preserved : Option Meeting) → IsUnread id count office preserved → AreOnItsResolutions (meeting_named office.meetings id) polls → IsReadFor id asked office preserved
-polled_read id asked office polls count few known preserved is on = is (λ m found. few) ∙ read_by asked count (meeting_named office.meetings id) (λ m found. known (length m.meeting.resolutions) (on m found))
+  -- and where the polls tell
+  pub polled_read : (polls : List Poll) (count : ℕ) → may_have count ≡ true → ((all : ℕ) → are_on all polls ≡ true → count ≡ stands all)
+      → (preserved : Option Meeting) → IsUnread id count office preserved → AreOnItsResolutions (meeting_named office.meetings id) polls → IsReadAs id stands office preserved
+  polled_read polls count few known preserved is on = is (λ m found. few) ∙ read_as count (meeting_named office.meetings id) (λ m found. known (length m.meeting.resolutions) (on m found))
 
 -- what is found passes the test
 found_is : {X : Type 0} (p : X → Bool) (xs : List X) (x : X) → find p xs ≡ Some x → p x ≡ true
@@ -261,3 +261,10 @@ on_resolutions office id holds polls are m found =
         let c = implies (is_some p.declared) (is_some p.closed) in
         let d = is_declared_right p.declared in
         second_so s a (first_so (s && a) b (first_so (s && a && b) c (first_so (s && a && b && c) d h)))
+
+-- and so is the poll on one of them
+pub on_its_resolution : (office : OfficeLists) (id : List ℕ) → IsTrue (is_office office) → (resolution : ℕ) (polls : List Poll) → polls ≡ polls_on resolution (polls_in (meeting_named office.meetings id)) → AreOnItsResolutions (meeting_named office.meetings id) polls
+on_its_resolution office id holds resolution polls are m found =
+    let all = on_resolutions office id holds (polls_in (meeting_named office.meetings id)) refl m found in
+    ap (are_on (length m.meeting.resolutions)) are
+    ∙ all-filter (λ (p : Poll). is_resolution (length m.meeting.resolutions) p.resolution) (λ (p : Poll). p.resolution == resolution) (polls_in (meeting_named office.meetings id)) all

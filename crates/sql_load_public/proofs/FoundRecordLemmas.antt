@@ -1,10 +1,11 @@
 -- What a query found, as what is told of the office.
-use Rattle.std.proofs.Common.{◌≡◌, ℕ, Bool, true, false, ◌&&◌, cond, List, [], ◌∷◌, map, filter, find, slice_get, Option, Some, Ok, Err, Result, OnOk, IfOk, IsTrue, refl, sym, ap, subst, ◌∙◌, true≢false}
+use Rattle.std.proofs.Common.{◌≡◌, ℕ, pos, length, Bool, true, false, ◌&&◌, cond, List, [], ◌∷◌, map, filter, find, slice_get, Option, Some, Ok, Err, Result, OnOk, IfOk, IsTrue, refl, sym, ap, subst, ◌∙◌, true≢false}
 use Rattle.std.specs.Prelude.{MatchResult}
 use Rattle.std.specs.Option.{option_map_or}
 use Rattle.sqlite.specs.declared.error.Error.{Error}
 use Rattle.sqlite.specs.declared.error.Error.TheVariants.{SqliteFailure}
 use Rattle.sqlite.specs.declared.error.ErrorCode.TheVariants.{OutOfMemory}
+use Rattle.sqlite.specs.declared.types.Value.TheVariants.{Int}
 use Rattle.sqlite.specs.Held.{Held, state}
 use Rattle.sqlite.specs.Order.{Row}
 use Rattle.sqlite.specs.State.{IsUnchanged}
@@ -18,6 +19,7 @@ use Rattle.sql_rows.specs.declared.stored_records.InMeeting.{InMeeting}
 use Rattle.sql_rows.proofs.RowMeaningLemmas.{bound}
 use Rattle.vocabulary.specs.Names.{same_name}
 use Rattle.sql_schema.specs.Statements.{ChangesNothing, FindsRecords, IsRead, TableOf, records_in}
+use Rattle.sql_queries.specs.CountedRecords.{CountsRecords, most}
 use Rattle.sql_model.specs.OfficeRecords.{FlatLists, flat_in, of_meeting, office_of_records}
 use Rattle.sql_model.proofs.ListChanges.{ListOf}
 use Rattle.sql_model.proofs.ModelOfficeLemmas.{AreOf, are_of}
@@ -144,3 +146,33 @@ pub first_passing : {X : Type 0} (test : X → Bool) (xs : List X) → slice_get
 first_passing test [] = refl
 first_passing test (x ∷ xs) =
     elim (test x) as (λ b. slice_get (cond b (x ∷ filter test xs) (filter test xs)) 0 ≡ cond b (Some x) (find test xs)) [ true ↦ refl | false ↦ first_passing test xs ]
+
+-- how many records were counted, where what is to be told follows from the records of the tables
+module _ {V A S : Type 0} (g : store.Ghosts S) (a b : Held S) (rows_in : V → List Row) (table : TableOf A) (all : FlatLists → List A) (held : (trees : Trees) (flat : FlatLists) → HoldAll trees flat → records_in table trees ≡ Some (all flat))
+    (test : A → Bool) (rows : Result V Error) (finds : IsRead g a b → IfOk rows (λ v. CountsRecords g a b table test (rows_in v))) (changes : ChangesNothing g a b)
+    (r : Result ℕ LoadError) (found : MatchResult rows (λ v. (count : ℕ) → rows_in v ≡ (Int (pos count) ∷ []) ∷ [] → r ≡ Ok count) (λ e. r ≡ Err (fault_of_error e))) where
+  count_said : (flat : FlatLists) → records_in table (state g a).now.trees ≡ Some (all flat) → (q : Result V Error) → IfOk q (λ v. CountsRecords g a b table test (rows_in v)) → MatchResult q (λ v. (count : ℕ) → rows_in v ≡ (Int (pos count) ∷ []) ∷ [] → r ≡ Ok count) (λ e. r ≡ Err (fault_of_error e))
+      → HoldsOrFails (λ count. count ≡ most (length (filter test (all flat)))) r
+  count_said flat holds (Ok v) counted h =
+      subst (HoldsOrFails (λ count. count ≡ most (length (filter test (all flat))))) (sym (h (most (length (filter test (all flat)))) (counted.0 (all flat) holds))) refl
+  count_said flat holds (Err e) counted h =
+      subst (HoldsOrFails (λ count. count ≡ most (length (filter test (all flat))))) (sym h) (error_returns (λ count. count ≡ most (length (filter test (all flat)))) e)
+
+  unchanged_by : (q : Result V Error) → IfOk q (λ v. CountsRecords g a b table test (rows_in v)) → MatchResult q (λ v. (count : ℕ) → rows_in v ≡ (Int (pos count) ∷ []) ∷ [] → r ≡ Ok count) (λ e. r ≡ Err (fault_of_error e))
+      → OnOk r (IsUnchanged (state g a) (state g b))
+  unchanged_by (Ok v) counted h = given r counted.1
+    where
+      given : (q : Result ℕ LoadError) → IsUnchanged (state g a) (state g b) → OnOk q (IsUnchanged (state g a) (state g b))
+      given (Ok x) same = same
+      given (Err e) same = tt
+  unchanged_by (Err e) counted h = subst (λ (q : Result ℕ LoadError). OnOk q (IsUnchanged (state g a) (state g b))) (sym h) tt
+
+  pub count_returned : (R : OfficeLists → ℕ → Type 0) → ((flat : FlatLists) (office : OfficeLists) → AreOf flat office → IsTrue (is_office office) → R office (most (length (filter test (all flat))))) → HoldsOfStoredOffice g a b r R
+  count_returned R so = record {
+    holds = λ read office holds preserved.
+        let flat = bound (flat_in (state g a).now.trees) office_of_records office holds in
+        says (R office) (most (length (filter test (all flat.0)))) r (so flat.0 office (are_of flat.0 office flat.2) preserved)
+        (count_said flat.0 (held (state g a).now.trees flat.0 (all_held (state g a).now.trees flat.0 flat.1)) rows (finds read) found);
+    same = λ read. unchanged_by rows (finds read) found;
+    changes = changes;
+  }

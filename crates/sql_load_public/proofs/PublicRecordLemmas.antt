@@ -1,21 +1,30 @@
 -- The public record, from what was told of its parts.
-use Rattle.std.proofs.Common.{◌≡◌, ℕ, true, List, [], filter, find, slice_get, Option, Some, None, Err, Result, IsTrue, refl, sym, ap, subst, ◌∙◌}
-use Rattle.std.specs.Prelude.{option_map}
+use Rattle.std.proofs.Common.{◌≡◌, ℕ, Bool, true, ◌&&◌, List, [], map, filter, find, slice_get, Option, Some, None, Err, Result, IsTrue, refl, sym, ap, subst, ◌∙◌}
+use Rattle.std.specs.Prelude.{◌==◌, option_map}
+use Rattle.std.specs.Ordering.{is_lt, nat_cmp}
 use Rattle.std.specs.Option.{option_map_or}
 use Rattle.std.proofs.lemmas.Bool.{and_parts}
+use Rattle.std.proofs.lemmas.Cmp.{nat_cmp_total}
+use Rattle.sqlite_trees.proofs.ListLemmas.{IsPermutation-filter}
 use Rattle.sqlite.specs.Held.{Held, state}
 use Rattle.sqlite.specs.Tree.{Trees}
 use Rattle.sqlite_trees.specs.declared.store.Store as store
 use Rattle.seq.specs.Ordered.{ascends_by}
 use Rattle.seq.specs.Sorting.{sort_by}
+use Rattle.seq.proofs.Ascending.{ascends_by-filter}
+use Rattle.seq.proofs.Numbers.{is_lt-nat_cmp}
+use Rattle.seq.proofs.SortingLemmas.{IsPermutation-sort_by, sort_by-ascending}
+use Rattle.vocabulary.specs.Names.{same_name}
 use Rattle.desk_words.specs.Finding.{meeting_named}
 use Rattle.desk_words.specs.SortedLists.{are_resolutions}
 use Rattle.desk_words.specs.Office.{is_office, poll_before}
 use Rattle.desk_words.specs.declared.office.MeetingLists.{MeetingLists}
 use Rattle.desk_words.specs.declared.office.OfficeLists.{OfficeLists}
+use Rattle.desk_words.specs.declared.records.Poll.{Poll}
 use Rattle.desk_words.specs.declared.records.Resolution.{Resolution}
 use Rattle.desk_words.specs.declared.records.Session.{Session}
 use Rattle.desk_words.proofs.OfficeFacts.{found_facts}
+use Rattle.sql_rows.specs.declared.stored_records.InMeeting.{InMeeting}
 use Rattle.sql_rows.specs.declared.stored_records.MeetingRow.{MeetingRow}
 use Rattle.sql_rows.specs.declared.stored_records.Numbered.{Numbered}
 use Rattle.sql_rows.proofs.RowMeaningLemmas.{bound}
@@ -28,11 +37,12 @@ use Rattle.sql_load_office.specs.WholeReading.{IsReading}
 use Rattle.sql_assemble.specs.OwnLists.{are_few, resolutions_own}
 use Rattle.sql_assemble.specs.LoadResults.{ReadErrAgrees, any_at_all}
 use Rattle.sql_assemble.specs.declared.fault.LoadError.{LoadError}
+use Rattle.party_views.specs.RowsRead.{polls_on}
 use Rattle.party_views.specs.Views.{polls_in}
-use Rattle.sql_load_public.specs.MeetingRecords.{later_in}
+use Rattle.sql_load_public.specs.MeetingRecords.{later_in, without_meeting}
 use Rattle.sql_load_public.specs.TableLookUps.{HoldsOfStoredOffice, HoldsOrFails}
 use Rattle.sql_load_public.proofs.FoundRecordLemmas.{cause_returns, first_passing, says, yields_return}
-use Rattle.sql_load_public.proofs.NamedMeetingLemmas.{IsFoundAs, has_name, list_is, meeting_found, the_same}
+use Rattle.sql_load_public.proofs.NamedMeetingLemmas.{IsFoundAs, has_name, list_is, meeting_found, passing, the_same}
 
 -- what a whole table holds, as what is told of the office
 pub reading_returned : {S X : Type 0} (g : store.Ghosts S) (a b : Held S) (said : Trees → Option X) (all : FlatLists → X) (held : (trees : Trees) (flat : FlatLists) → flat_in trees ≡ Some flat → said trees ≡ Some (all flat))
@@ -136,3 +146,35 @@ polls_rise office id preserved = go (meeting_named office.meetings id) refl
     go : (found : Option MeetingLists) → meeting_named office.meetings id ≡ found → ascends_by poll_before (polls_in found) ≡ true
     go None is = refl
     go (Some m) is = polls_ascend m.meeting m.polls (found_facts office id m preserved is).polls
+
+-- ---- the poll on a resolution
+
+by_resolution : (λ (a b : Poll). is_lt (nat_cmp a.resolution b.resolution)) ≡ poll_before
+by_resolution = λ i a b. is_lt-nat_cmp a.resolution b.resolution i
+
+-- those on it, put in order, are those on it of all in order
+on_sorted : (resolution : ℕ) (polls : List Poll) → ascends_by poll_before (sort_by poll_before polls) ≡ true → sort_by poll_before (polls_on resolution polls) ≡ polls_on resolution (sort_by poll_before polls)
+on_sorted resolution polls =
+    subst (λ (before : Poll → Poll → Bool). ascends_by before (sort_by before polls) ≡ true → sort_by before (polls_on resolution polls) ≡ polls_on resolution (sort_by before polls)) by_resolution
+    (λ rise.
+    let before : Poll → Poll → Bool = λ a b. is_lt (nat_cmp a.resolution b.resolution) in
+    let on : Poll → Bool = λ poll. poll.resolution == resolution in
+    sym (sort_by-ascending nat_cmp_total (λ (poll : Poll). poll.resolution) (filter on polls) (filter on (sort_by before polls))
+    (IsPermutation-filter on polls (sort_by before polls) (IsPermutation-sort_by before polls))
+    (ascends_by-filter nat_cmp_total (λ (poll : Poll). poll.resolution) on (sort_by before polls) rise)))
+
+-- and they are in order
+on_rise : (resolution : ℕ) (polls : List Poll) → ascends_by poll_before polls ≡ true → ascends_by poll_before (polls_on resolution polls) ≡ true
+on_rise resolution polls =
+    subst (λ (before : Poll → Poll → Bool). ascends_by before polls ≡ true → ascends_by before (polls_on resolution polls) ≡ true) by_resolution
+    (ascends_by-filter nat_cmp_total (λ (poll : Poll). poll.resolution) (λ (poll : Poll). poll.resolution == resolution) polls)
+
+pub poll_so : (id : List ℕ) (resolution : ℕ) (flat : FlatLists) (office : OfficeLists) → AreOf flat office → IsTrue (is_office office)
+    → sort_by poll_before (map without_meeting (filter (λ (it : InMeeting Poll). same_name it.meeting id && it.item.resolution == resolution) flat.polls)) ≡ polls_on resolution (polls_in (meeting_named office.meetings id))
+poll_so id resolution flat office of preserved =
+    ap (sort_by poll_before) (passing id (λ (poll : Poll). poll.resolution == resolution) flat.polls)
+    ∙ on_sorted resolution (of_meeting id flat.polls) (ap (ascends_by poll_before) (polls_so id flat office of) ∙ polls_rise office id preserved)
+    ∙ ap (polls_on resolution) (polls_so id flat office of)
+
+pub poll_rises : (office : OfficeLists) (id : List ℕ) (resolution : ℕ) → IsTrue (is_office office) → ascends_by poll_before (polls_on resolution (polls_in (meeting_named office.meetings id))) ≡ true
+poll_rises office id resolution preserved = on_rise resolution (polls_in (meeting_named office.meetings id)) (polls_rise office id preserved)

@@ -6,4 +6,7 @@ mod public;
 pub mod query_records;
 mod stand_ins;
 
-pub use public::{OwnedRecord, meeting_of, polls_of, read_closed, read_public, read_public_for};
+pub use public::{
+    OwnedRecord, counted_of, meeting_for, meeting_of, polls_of, polls_on, read_closed, read_public,
+    read_public_for,
+};

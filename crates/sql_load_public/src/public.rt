@@ -2,8 +2,8 @@
 ghost use Rattle.std.specs.Prelude.{◌≡◌, [], Some, length, option_map};
 ghost use Rattle.sql_model.specs.OfficeRecords.{whole_meeting};
 ghost use Rattle.desk_words.specs.declared.office.MeetingLists.{MeetingLists};
-ghost use Rattle.desk_words.specs.declared.request.PartyRequest.TheVariants.{Cast};
-ghost use Rattle.party_views.specs.PublicRead.{meeting_alone, meeting_read, public_read, vote_read, with_unread, without_texts};
+ghost use Rattle.party_views.specs.PublicRead.{counted, counted_up_to, for_poll_on, meeting_alone, public_read, vote_read, with_unread, without_texts};
+ghost use Rattle.party_views.specs.RowsRead.{polls_on};
 ghost use Rattle.party_views.specs.Views.{meeting_at, polls_in, public_of};
 ghost use Rattle.sql_load_public.specs.MeetingRecords.{AreOnItsResolutions, MayHave, last_number, later_in};
 ghost use Rattle.sql_load_public.specs.TableLookUps.{HoldsOfStoredOffice};
@@ -143,6 +143,41 @@ pub fn polls_of<S: Alter>(
     poll_list(rows)
 }
 
+/// Those of the polls that are on a resolution, of which there is one at most.
+fn polls_among(polls: Listing<Poll>, resolution: u64) -> Listing<Poll>
+    ensures { result ≡ polls_on resolution polls }
+{
+    let mut on = polls.into_vec();
+    on.retain(|poll| poll.resolution == resolution);
+    Listing::from_vec(on)
+}
+
+/// The poll on a resolution of a meeting (section 321), if it is ordered. No other poll is read; but
+/// no column holds a number above 2^63 - 1, and for such a one all are.
+pub fn polls_on<S: Alter>(
+    tx: &mut Transaction<'_, S>,
+    alloc: Global,
+    meeting: MeetingId,
+    resolution: u64,
+) -> Result<Listing<Poll>, LoadError>
+    ensures same_reference { tx.new.conn.ghost_name ≡ tx.old.conn.ghost_name }
+    ensures holds { HoldsOfStoredOffice S.Store tx.old.conn.now tx.new.conn.now result
+        (λ office on. on ≡ polls_on resolution (polls_in (meeting_at office meeting))) }
+{
+    if resolution >= 1 << 63 {
+        let polls = polls_of(tx, alloc, meeting)?;
+        return Ok(polls_among(polls, resolution));
+    }
+    let on = items(
+        alloc,
+        records_found(
+            alloc,
+            find::<polls::OnResolution, S>(tx, (meeting, resolution)),
+        ),
+    )?;
+    poll_list(on)
+}
+
 /// The public record of a meeting; where there is none of that name, the closed days alone. Of the
 /// tables it reads the closed days and what names the meeting.
 pub fn read_public<S: Alter>(
@@ -211,40 +246,55 @@ fn unread_of<S: Alter>(
     Ok(Some(whole_meeting(row, later, resolutions)))
 }
 
-/// The meeting of a name with its sessions, if there is one, its resolutions counted and replaced by
-/// as many as the answer to a request asks for.
-fn counted_for<S: Alter>(
+/// The meeting of a name with its sessions, if there is one, and as many resolutions as it has, of
+/// which none is read.
+pub fn counted_of<S: Alter>(
     tx: &mut Transaction<'_, S>,
     alloc: Global,
     meeting: MeetingId,
-    asked: &PartyRequest,
 ) -> Result<Option<Meeting>, LoadError>
     ensures same_reference { tx.new.conn.ghost_name ≡ tx.old.conn.ghost_name }
     ensures holds { HoldsOfStoredOffice S.Store tx.old.conn.now tx.new.conn.now result
-        (λ office found. found
-        ≡ option_map (meeting_read asked.now) (public_of office meeting).meeting) }
+        (λ office found. found ≡ option_map counted (public_of office meeting).meeting) }
 {
     let count = count_of(tx, alloc, meeting)?;
-    unread_of(tx, alloc, meeting, stand_ins(asked, count))
+    unread_of(tx, alloc, meeting, count)
 }
 
-/// The meeting of a name with its sessions, if there is one, its resolutions replaced by as many as
-/// the answer to a request asks for. They are counted only where the polls do not tell enough.
-fn meeting_for<S: Alter>(
+/// The meeting of a name with its sessions, if there is one, its resolutions counted and replaced by
+/// as many as tell whether the one that is asked for is among them.
+fn counted_up_to<S: Alter>(
     tx: &mut Transaction<'_, S>,
     alloc: Global,
     meeting: MeetingId,
-    asked: &PartyRequest,
+    on: Option<u64>,
+) -> Result<Option<Meeting>, LoadError>
+    ensures same_reference { tx.new.conn.ghost_name ≡ tx.old.conn.ghost_name }
+    ensures holds { HoldsOfStoredOffice S.Store tx.old.conn.now tx.new.conn.now result
+        (λ office found. found ≡ option_map (counted_up_to on) (public_of office meeting).meeting) }
+{
+    let count = count_of(tx, alloc, meeting)?;
+    unread_of(tx, alloc, meeting, stand_ins(on, count))
+}
+
+/// The meeting of a name with its sessions, if there is one, its resolutions replaced by as many as
+/// tell whether the one that is asked for is among them. They are counted only where polls on them do
+/// not tell it.
+pub fn meeting_for<S: Alter>(
+    tx: &mut Transaction<'_, S>,
+    alloc: Global,
+    meeting: MeetingId,
+    on: Option<u64>,
     polls: &[Poll],
 ) -> Result<Option<Meeting>, LoadError>
     ensures same_reference { tx.new.conn.ghost_name ≡ tx.old.conn.ghost_name }
     ensures holds { HoldsOfStoredOffice S.Store tx.old.conn.now tx.new.conn.now result
         (λ office found. AreOnItsResolutions (meeting_at office meeting) polls.now
-        → found ≡ option_map (meeting_read asked.now) (public_of office meeting).meeting) }
+        → found ≡ option_map (counted_up_to on) (public_of office meeting).meeting) }
 {
-    match stand_ins_by_polls(asked, polls) {
+    match stand_ins_by_polls(on, polls) {
         Some(count) => unread_of(tx, alloc, meeting, count),
-        None => counted_for(tx, alloc, meeting, asked),
+        None => counted_up_to(tx, alloc, meeting, on),
     }
 }
 
@@ -273,21 +323,20 @@ fn read_alone<S: Alter>(
     Ok(alone(alloc, found))
 }
 
-/// The public record of a meeting, its resolutions replaced by as many as the answer to a request
-/// asks for.
+/// The public record of a meeting without the texts of its resolutions, of which one may be asked for.
 fn read_without_texts<S: Alter>(
     tx: &mut Transaction<'_, S>,
     alloc: Global,
     meeting: MeetingId,
-    asked: &PartyRequest,
+    on: Option<u64>,
 ) -> Result<OwnedRecord, LoadError>
     ensures same_reference { tx.new.conn.ghost_name ≡ tx.old.conn.ghost_name }
     ensures holds { HoldsOfStoredOffice S.Store tx.old.conn.now tx.new.conn.now result
-        (λ office found. found ≡ without_texts asked.now (public_of office meeting)) }
+        (λ office found. found ≡ without_texts on (public_of office meeting)) }
 {
     let closed = read_closed(tx, alloc)?;
     let polls = polls_of(tx, alloc, meeting)?;
-    let found = meeting_for(tx, alloc, meeting, asked, polls.as_slice())?;
+    let found = meeting_for(tx, alloc, meeting, on, polls.as_slice())?;
     Ok(OwnedRecord {
         closed,
         meeting: found,
@@ -295,20 +344,20 @@ fn read_without_texts<S: Alter>(
     })
 }
 
-/// The same without the closed days.
+/// What of it votes on a resolution read, where the closed days are not asked for.
 fn read_without_days<S: Alter>(
     tx: &mut Transaction<'_, S>,
     alloc: Global,
     meeting: MeetingId,
-    asked: &PartyRequest,
+    resolution: u64,
 ) -> Result<OwnedRecord, LoadError>
     ensures same_reference { tx.new.conn.ghost_name ≡ tx.old.conn.ghost_name }
     ensures holds { HoldsOfStoredOffice S.Store tx.old.conn.now tx.new.conn.now result
         (λ office found. found
-        ≡ record (without_texts asked.now (public_of office meeting)) { closed = [] }) }
+        ≡ record (for_poll_on resolution (public_of office meeting)) { closed = [] }) }
 {
-    let polls = polls_of(tx, alloc, meeting)?;
-    let found = meeting_for(tx, alloc, meeting, asked, polls.as_slice())?;
+    let polls = polls_on(tx, alloc, meeting, resolution)?;
+    let found = meeting_for(tx, alloc, meeting, Some(resolution), polls.as_slice())?;
     Ok(OwnedRecord {
         closed: Closed::from_list(DayList::empty(alloc)),
         meeting: found,
@@ -316,20 +365,38 @@ fn read_without_days<S: Alter>(
     })
 }
 
-/// The same without the polls, of which none tells how many resolutions an appointment asks for.
+/// What of it votes on a resolution read: the poll on it alone.
+fn read_for_poll<S: Alter>(
+    tx: &mut Transaction<'_, S>,
+    alloc: Global,
+    meeting: MeetingId,
+    resolution: u64,
+) -> Result<OwnedRecord, LoadError>
+    ensures same_reference { tx.new.conn.ghost_name ≡ tx.old.conn.ghost_name }
+    ensures holds { HoldsOfStoredOffice S.Store tx.old.conn.now tx.new.conn.now result
+        (λ office found. found ≡ for_poll_on resolution (public_of office meeting)) }
+{
+    let closed = read_closed(tx, alloc)?;
+    let read = read_without_days(tx, alloc, meeting, resolution)?;
+    Ok(OwnedRecord { closed, ..read })
+}
+
+/// The public record of a meeting without the polls, and with as many resolutions as it has in place
+/// of them.
 fn read_without_polls<S: Alter>(
     tx: &mut Transaction<'_, S>,
     alloc: Global,
     meeting: MeetingId,
-    asked: &PartyRequest,
 ) -> Result<OwnedRecord, LoadError>
     ensures same_reference { tx.new.conn.ghost_name ≡ tx.old.conn.ghost_name }
     ensures holds { HoldsOfStoredOffice S.Store tx.old.conn.now tx.new.conn.now result
-        (λ office found. found
-        ≡ record (without_texts asked.now (public_of office meeting)) { polls = [] }) }
+        (λ office found. found ≡ record (public_of office meeting) {
+          meeting = option_map counted (public_of office meeting).meeting;
+          polls = [];
+        }) }
 {
     let closed = read_closed(tx, alloc)?;
-    let found = counted_for(tx, alloc, meeting, asked)?;
+    let found = counted_of(tx, alloc, meeting)?;
     Ok(OwnedRecord {
         closed,
         meeting: found,
@@ -343,21 +410,19 @@ fn read_for_vote<S: Alter>(
     alloc: Global,
     meeting: MeetingId,
     new: &NewCast,
-    asked: &PartyRequest,
 ) -> Result<OwnedRecord, LoadError>
-    requires { asked.now ≡ Cast new.now }
     ensures same_reference { tx.new.conn.ghost_name ≡ tx.old.conn.ghost_name }
     ensures holds { HoldsOfStoredOffice S.Store tx.old.conn.now tx.new.conn.now result
         (λ office found. found ≡ vote_read new.now new.now.capacity (public_of office meeting)) }
 {
     match new.capacity {
-        Capacity::Proxy => read_without_texts(tx, alloc, meeting, asked),
-        Capacity::Member | Capacity::Rep => read_without_days(tx, alloc, meeting, asked),
+        Capacity::Proxy => read_for_poll(tx, alloc, meeting, new.resolution),
+        Capacity::Member | Capacity::Rep => read_without_days(tx, alloc, meeting, new.resolution),
     }
 }
 
 /// What of a meeting's public record the answer to a party's request reads. Texts of resolutions are
-/// read for the notice alone (section 307).
+/// read for the notice alone (section 307), and of the polls a vote reads its own.
 pub fn read_public_for<S: Alter>(
     tx: &mut Transaction<'_, S>,
     alloc: Global,
@@ -370,11 +435,15 @@ pub fn read_public_for<S: Alter>(
 {
     match asked {
         PartyRequest::Notice => read_public(tx, alloc, meeting),
-        PartyRequest::Appoint(_) => read_without_polls(tx, alloc, meeting, asked),
+        PartyRequest::Mine => read_without_texts(tx, alloc, meeting, None),
+        PartyRequest::Appoint(_) => read_without_polls(tx, alloc, meeting),
         PartyRequest::End(_) | PartyRequest::Authorise(_) | PartyRequest::Attend => {
             read_alone(tx, alloc, meeting)
         }
-        PartyRequest::Cast(new) => read_for_vote(tx, alloc, meeting, new, asked),
-        _ => read_without_texts(tx, alloc, meeting, asked),
+        PartyRequest::Demand(resolution) => {
+            read_without_texts(tx, alloc, meeting, Some(*resolution))
+        }
+        PartyRequest::Cast(new) => read_for_vote(tx, alloc, meeting, new),
+        PartyRequest::Instructed(resolution) => read_for_poll(tx, alloc, meeting, *resolution),
     }
 }

@@ -1,5 +1,6 @@
 //! The records that a query found.
-ghost use Rattle.std.specs.Prelude.{◌≡◌, Err, MatchResult, map};
+ghost use Rattle.std.specs.Prelude.{◌≡◌, ◌∷◌, [], ℕ, pos, Err, MatchResult, Ok, map};
+ghost use Rattle.sqlite.specs.declared.types.Value.TheVariants.{Int};
 ghost use Rattle.std.specs.List.{slice_get};
 ghost use Rattle.sql_rows.specs.Meanings.{all_meanings};
 ghost use Rattle.sql_assemble.specs.LoadResults.{ReadAgrees, any_at_all, fault_of_error};
@@ -8,7 +9,7 @@ ghost use Rattle.sql_load_public.specs.MeetingRecords.{without_meeting};
 
 use desk_words::Listing;
 use sql_assemble::LoadError;
-use sql_rows::{FromRow, InMeeting, records};
+use sql_rows::{Column, FromRow, InMeeting, records};
 use sqlite::{Error, Row};
 use std::alloc::Global;
 
@@ -48,4 +49,17 @@ pub fn first<T: Drop>(records: Listing<T>) -> Option<T>
     ensures { result ≡ slice_get records 0 }
 {
     records.into_vec().into_iter().next()
+}
+
+/// The number that a query counted. The fault is that of the query.
+pub fn counted(rows: Result<Vec<Row>, Error>) -> Result<usize, LoadError>
+    ensures { MatchResult rows
+        (λ rows. (count : ℕ) → rows.items ≡ (Int (pos count) ∷ []) ∷ [] → result ≡ Ok count)
+        (λ error. result ≡ Err (fault_of_error error)) }
+{
+    let rows = rows?;
+    match rows.as_slice() {
+        [row] => Ok(<u64 as Column>::read(row, 0)? as usize),
+        _ => Err(LoadError::NoOffice),
+    }
 }

@@ -5,7 +5,7 @@ ghost use Rattle.sql_assemble.specs.declared.fault.LoadError.TheVariants.{Memory
 ghost use Rattle.sql_load_public.specs.MeetingRecords.{are_on, may_have};
 
 use desk_words::limits::MOST_RESOLUTIONS;
-use desk_words::{PartyRequest, Poll, ResKind, Resolution, Resolutions, Text, find_poll};
+use desk_words::{Poll, ResKind, Resolution, Resolutions, Text, find_poll};
 use sql_assemble::LoadError;
 use std::alloc::Global;
 
@@ -20,21 +20,13 @@ fn up_to(number: u64, count: usize) -> usize
     }
 }
 
-/// How many resolutions stand in place of so many in what the answer to a request reads.
-pub(crate) fn stand_ins(asked: &PartyRequest, count: usize) -> usize
-    ensures { result ≡ stand_ins asked.now count }
+/// How many resolutions stand in place of so many: those up to the one that is asked for, if one is.
+pub(crate) fn stand_ins(on: Option<u64>, count: usize) -> usize
+    ensures { result ≡ stand_ins on count }
 {
-    match asked {
-        PartyRequest::Appoint(_) => count,
-        PartyRequest::Demand(resolution) | PartyRequest::Instructed(resolution) => {
-            up_to(*resolution, count)
-        }
-        PartyRequest::Cast(new) => up_to(new.resolution, count),
-        PartyRequest::Notice
-        | PartyRequest::Mine
-        | PartyRequest::End(_)
-        | PartyRequest::Authorise(_)
-        | PartyRequest::Attend => 1,
+    match on {
+        Some(number) => up_to(number, count),
+        None => 1,
     }
 }
 
@@ -53,24 +45,16 @@ fn up_to_polled(polls: &[Poll], number: u64) -> Option<usize>
     }
 }
 
-/// How many resolutions stand in place of a meeting's in what the answer to a request reads, where
-/// its polls tell. Where they do not, they have to be counted.
-pub(crate) fn stand_ins_by_polls(asked: &PartyRequest, polls: &[Poll]) -> Option<usize>
+/// How many resolutions stand in place of a meeting's, where its polls tell. Where they do not, they
+/// have to be counted.
+pub(crate) fn stand_ins_by_polls(on: Option<u64>, polls: &[Poll]) -> Option<usize>
     ensures few { IfSome result (λ count. may_have count ≡ true) }
     ensures known { IfSome result (λ count. (all : ℕ) → are_on all polls.now ≡ true
-        → count ≡ stand_ins asked.now all) }
+        → count ≡ stand_ins on all) }
 {
-    match asked {
-        PartyRequest::Appoint(_) => None,
-        PartyRequest::Demand(resolution) | PartyRequest::Instructed(resolution) => {
-            up_to_polled(polls, *resolution)
-        }
-        PartyRequest::Cast(new) => up_to_polled(polls, new.resolution),
-        PartyRequest::Notice
-        | PartyRequest::Mine
-        | PartyRequest::End(_)
-        | PartyRequest::Authorise(_)
-        | PartyRequest::Attend => Some(1),
+    match on {
+        Some(number) => up_to_polled(polls, number),
+        None => Some(1),
     }
 }
 

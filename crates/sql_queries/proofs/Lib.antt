@@ -1,2 +1,5 @@
+pub mod CastQueries
+pub mod CountQueries
 pub mod LastQueries
+pub mod MeetingQueries
 pub mod ResolutionQueries

@@ -16,7 +16,7 @@ use Rattle.sql_rows.specs.Marks.{cast_in, cast_kind_in}
 use Rattle.sql_rows.specs.declared.stored_records.InMeeting.{InMeeting}
 use Rattle.sql_schema.specs.Contents.{appointments, authorities, casts, endings}
 use Rattle.sql_schema.specs.Tables.{appointments_table, authorities_table, casts_table, endings_table}
-use Rattle.sql_stored.specs.Keys.{FindsAs, FindsBy, HoldMeeting, HoldNumber, HoldNumbered, HoldParties, HoldParty, both_tests, first_test, three_tests}
+use Rattle.sql_stored.specs.Keys.{FindsAs, FindsBy, HoldMeeting, HoldNumber, HoldParties, HoldParty, both_tests, first_test, three_tests}
 use Rattle.sqlite.specs.Listing.{understood}
 use Rattle.sqlite.specs.Order.{Row}
 use Rattle.sqlite_tied.specs.Compute.{everything}
@@ -181,7 +181,7 @@ authorities_of_meeting = record {
 -- ---- the votes
 
 -- what a row names
-names_cast : (cells : Row) (x : InMeeting CastMark)
+pub names_cast : (cells : Row) (x : InMeeting CastMark)
     → cast_in cells ≡ Some x
     → (parsed_in meeting_of cells 0 ≡ Some x.meeting)
     × (parsed_in party_of cells 2 ≡ Some x.item.voter)
@@ -218,15 +218,4 @@ cast_on_resolution = record {
       (λ others apart indexes views. record { is = refl; plain = (refl, refl); unlisted = refl });
   alone = λ schema base. refl;
   holds = λ cells x h. let of = names_cast cells x h in (of.0, of.2);
-}
-
-pub cast_by_on
-    : FindsBy casts casts_table three_tests HoldNumbered (0 ∷ 2 ∷ 1 ∷ [])
-    (λ it. (it.meeting, it.item.voter, it.item.resolution))
-unfolding understood everything
-cast_by_on = record {
-  asks = wide_one (FindsAs casts casts_table three_tests (0 ∷ 2 ∷ 1 ∷ []))
-      (λ others apart indexes views. record { is = refl; plain = (refl, refl); unlisted = refl });
-  alone = λ schema base. refl;
-  holds = λ cells x h. names_cast cells x h;
 }

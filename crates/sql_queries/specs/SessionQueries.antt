@@ -13,7 +13,7 @@ use Rattle.sql_rows.specs.Marks.{declared_in, demand_mark_in, demand_mark_of, po
 use Rattle.sql_rows.specs.declared.stored_records.InMeeting.{InMeeting}
 use Rattle.sql_schema.specs.Contents.{demands, polls, presences}
 use Rattle.sql_schema.specs.Tables.{demands_table, polls_table, presences_table}
-use Rattle.sql_stored.specs.Keys.{FindsAs, FindsBy, HoldMeeting, HoldParty, both_tests, first_test}
+use Rattle.sql_stored.specs.Keys.{FindsAs, FindsBy, HoldMeeting, HoldNumber, HoldParty, both_tests, first_test}
 use Rattle.sqlite.specs.Listing.{understood}
 use Rattle.sqlite.specs.Order.{Row}
 use Rattle.sqlite_tied.specs.Compute.{everything}
@@ -101,7 +101,9 @@ demands_of_meeting = record {
 
 -- what a row names
 names_poll : (cells : Row) (x : InMeeting Poll)
-    → poll_in cells ≡ Some x → parsed_in meeting_of cells 0 ≡ Some x.meeting
+    → poll_in cells ≡ Some x
+    → (parsed_in meeting_of cells 0 ≡ Some x.meeting)
+    × (number_in cells 2 ≡ Some x.item.resolution)
 unfolding poll_in
 names_poll cells x h =
     let meeting = bound (parsed_in meeting_of cells 0) _ x h in
@@ -112,8 +114,10 @@ names_poll cells x h =
     let chair = bound (flag_in cells 5) _ x taken.2 in
     let started = bound (some_moment_in cells 6) _ x chair.2 in
     let closed = bound (some_moment_in cells 7) _ x started.2 in
-    let declared = bound (declared_in cells 8) _ x closed.2 in
-    meeting.1 ∙ option_ap (λ (y : InMeeting Poll). y.meeting) declared.2
+    let declared = bound (declared_in cells 8) _ x closed.2 in (
+      meeting.1 ∙ option_ap (λ (y : InMeeting Poll). y.meeting) declared.2,
+      resolution.1 ∙ option_ap (λ (y : InMeeting Poll). y.item.resolution) declared.2,
+    )
 
 pub polls_of_meeting
     : FindsBy polls polls_table first_test HoldMeeting (0 ∷ [])
@@ -121,6 +125,17 @@ pub polls_of_meeting
 unfolding understood everything
 polls_of_meeting = record {
   asks = wide (FindsAs polls polls_table first_test (0 ∷ []))
+      (λ others apart indexes views. record { is = refl; plain = (refl, refl); unlisted = refl });
+  alone = λ schema base. refl;
+  holds = λ cells x h. (names_poll cells x h).0;
+}
+
+pub poll_on_resolution
+    : FindsBy polls polls_table both_tests HoldNumber (0 ∷ 2 ∷ [])
+    (λ it. (it.meeting, it.item.resolution))
+unfolding understood everything
+poll_on_resolution = record {
+  asks = wide (FindsAs polls polls_table both_tests (0 ∷ 2 ∷ []))
       (λ others apart indexes views. record { is = refl; plain = (refl, refl); unlisted = refl });
   alone = λ schema base. refl;
   holds = λ cells x h. names_poll cells x h;

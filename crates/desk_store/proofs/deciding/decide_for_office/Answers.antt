@@ -20,7 +20,7 @@ returns-in_err-found-clause-holds g c =
     let is : c.from_residual.result ≡ Err c.in_err-found.field-0.0 = search rules in
     returned_office g.S.Store _ _ _ (IsDecided call) (holds_stop g.S.Store _ _ _ (IsDecided call) c.in_err-found.field-0.0 c.from_residual.result is c.in_err-found.ensures.holds)
 
--- the meeting and its polls refuse it
+-- what is read first refuses it
 pub returns-in-Err-clause-holds : goal.returns-in-Err-clause-holds
 returns-in-Err-clause-holds g c =
     let call = office_call c.args.meeting c.args.now c.args.asked.now in
@@ -45,7 +45,7 @@ returns-clause-holds g c =
     let both = holds_both g.S.Store _ _ _ c.in_ok-found.found rest _ _ c.in_ok-found.ensures.holds c.in_ok-read.ensures.holds in
     returned_made g.S.Store _ _ rest c.map_err.result _ (IsDecided call) both
     (λ office preserved p.
-    let there = meeting_found (meeting_at office c.args.meeting) c.in_ok-found.found c.in-Ok.lists c.in-Ok.ensures.found p.0 in
+    let there = meeting_found c.args.asked.now (meeting_at office c.args.meeting) c.in_ok-found.found c.in-Ok.lists c.in-Ok.ensures.found p.0 in
     let reads = p.1 there.0 there.1 there.2 in
     let read : AreListsRead office c.args.meeting c.args.asked.now rest.closed (Some rest.lists) = record {
       closed = reads.closed;

@@ -1,5 +1,6 @@
 use Rattle.std.proofs.Common.{◌≡◌, Err, ap, length, rules, ◌∙◌}
 use Rattle.party_views.specs.PartyRows.{no_own_rows}
+use Rattle.party_views.specs.declared.own_rows.OwnCasts.TheVariants.{All}
 use Rattle.row_source.proofs.SourceRowLemmas.{rows_are}
 use Rattle.row_source.proofs.SourceLookUpLemmas.{handed_on, holds_after, holds_both, holds_so}
 use Rattle.row_source.proofs.needed_rows.read_all.Goals as goal
@@ -54,5 +55,5 @@ returns g c =
       given_count = (c.len.ensures ∙ ap length p.0.0.0.0.0) i;
       ended = p.0.0.0.0.1 i;
       persons = p.0.0.0.1 i;
-      casts = p.0.0.1 i;
+      casts = All (p.0.0.1 i);
     }) ∙ rows_are found c.args.party)

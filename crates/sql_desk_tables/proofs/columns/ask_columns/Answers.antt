@@ -8,4 +8,4 @@ returns-in_err-ask_columns_one-clause-asked g c =
     asks_stop g.S.Store _ _ _ _ c.from_residual.result is c.in_err-ask_columns_one.ensures.asked
 
 pub returns-clause-asked : goal.returns-clause-asked
-returns-clause-asked g c = asks_then g.S.Store _ _ _ _ _ _ c.in_ok-ask_columns_one.ensures.asked c.ask_sessions.ensures.asked
+returns-clause-asked g c = asks_then g.S.Store _ _ _ _ _ _ c.in_ok-ask_columns_one.ensures.asked c.ask_each.ensures.asked

@@ -1,5 +1,5 @@
 use Rattle.std.proofs.Common.{◌≡◌, Err, ◌∙◌, rules}
-use Rattle.sql_load_public.proofs.CountedRecordLemmas.{on_resolutions}
+use Rattle.sql_load_public.proofs.CountedRecordLemmas.{on_its_resolution}
 use Rattle.sql_load_public.proofs.StoredOfficeLemmas.{holds_after, holds_both, holds_so, holds_stop}
 use Rattle.sql_load_public.proofs.public.read_without_days.Goals as goal
 
@@ -14,6 +14,6 @@ returns-clause-holds g c =
     (holds_both g.S.Store _ _ _ c.in_ok-polls.polls c.in_ok-found.found _ _ c.in_ok-polls.ensures.holds c.in_ok-found.ensures.holds)
     (λ office holds p. λ i. record {
       closed = (c.from_list.ensures ∙ c.empty.ensures) i;
-      meeting = p.1 (on_resolutions office c.args.meeting holds c.as_slice.result.now (c.as_slice.ensures ∙ p.0)) i;
+      meeting = p.1 (on_its_resolution office c.args.meeting holds c.args.resolution c.as_slice.result.now (c.as_slice.ensures ∙ p.0)) i;
       polls = p.0 i;
     })
