@@ -7,9 +7,9 @@ use Rattle.desk_words.specs.Office.{is_office}
 use Rattle.desk_words.specs.declared.office.OfficeLists.{OfficeLists}
 use Rattle.sql_model.specs.OfficeRecords.{office_in}
 use Rattle.sql_assemble.specs.declared.fault.LoadError.{LoadError}
-use Rattle.sql_load_office.specs.WholeReading.{IsReading}
+use Rattle.sql_load.specs.WholeReading.{IsReading}
 use Rattle.office_validation.specs.Validation.{office_in_order}
-use Rattle.sql_load_public.specs.TableLookUps.{HoldsOfStoredOffice, HoldsOrFails}
+use Rattle.sql_load.specs.TableLookUps.{HoldsOfStoredOffice, HoldsOrFails}
 use Rattle.desk_store.specs.TableReads.{HoldsOfTables, IsBookOf}
 use Rattle.sql_open.proofs.OrderedOffice.{office_ordered}
 

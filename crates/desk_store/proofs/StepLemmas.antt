@@ -10,7 +10,7 @@ use Rattle.desk_words.specs.declared.change.Change.{Change}
 use Rattle.desk_words.specs.declared.office.OfficeLists.{OfficeLists}
 use Rattle.sql_assemble.specs.declared.fault.LoadError.{LoadError}
 use Rattle.desk_words.specs.declared.request.Call.{Call}
-use Rattle.sql_load_office.proofs.ReadingLemmas.{keeps_then}
+use Rattle.sql_load.proofs.ReadingLemmas.{keeps_then}
 use Rattle.desk_words.specs.Changes.{applied_if_any}
 use Rattle.meeting_core.specs.Decisions.{DecidedChangesCanBeMade}
 use Rattle.meeting_core.specs.Step.{decided, stepped}

@@ -10,5 +10,5 @@ mod reading;
 mod reads;
 
 pub use desk::Desk;
-pub use sql_load_public::OwnedRecord;
+pub use sql_load::OwnedRecord;
 pub use sql_open::{CreateError, HandedBack, OpenFault};

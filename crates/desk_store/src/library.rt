@@ -24,7 +24,7 @@ use crate::reading::{Reading, fault_of_book};
 use desk_words::{Failure, MeetingId, Moment, Party};
 use meeting_core::Book;
 use party_views::OwnView;
-use sql_load_office::{LoadError, read_office};
+use sql_load::{LoadError, read_office};
 use sql_load_party::read_own;
 use sql_open::{CreateError, HandedBack, OpenFault};
 use sqlite::{Alter, Connection, Transaction};

@@ -19,7 +19,7 @@ use crate::desk::Desk;
 use crate::reading::failure_of;
 use desk_words::{Answer, Call, Change, Failure, Reply};
 use meeting_core::laws::decided_changes_can_be_made;
-use sql_load_office::LoadError;
+use sql_load::LoadError;
 use sql_write::write;
 use sqlite::{Alter, Error, Transaction};
 use std::alloc::{AllocError, Global};

@@ -7,8 +7,7 @@ ghost use Rattle.desk_store.specs.TableReads.{IsCallerWith, IsPublic, HoldsOfTab
 use desk_words::{Caller, Failure, KeyRow, MeetingId, SecretKey};
 use meeting_core::BookFault;
 use sql_desk_tables::keys;
-use sql_load_office::LoadError;
-use sql_load_public::{OwnedRecord, read_public};
+use sql_load::{LoadError, OwnedRecord, read_public};
 use sql_rows::records;
 use sqlite::{Alter, Transaction};
 use std::alloc::Global;

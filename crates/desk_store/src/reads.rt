@@ -15,7 +15,7 @@ ghost use Rattle.sqlite.specs.State.{Survives};
 use crate::desk::Desk;
 use crate::reading::{CallerOf, PublicOf, Reading, failure_of};
 use desk_words::{Caller, Failure, MeetingId, SecretKey};
-use sql_load_public::OwnedRecord;
+use sql_load::OwnedRecord;
 use sqlite::Alter;
 
 impl<S: Alter> Desk<S> {

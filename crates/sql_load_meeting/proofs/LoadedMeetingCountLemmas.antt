@@ -13,8 +13,8 @@ use Rattle.sql_model.specs.OfficeRecords.{FlatLists, lists_of, lists_of_all}
 use Rattle.sql_model.proofs.ModelOfficeLemmas.{AreOf}
 use Rattle.desk_words.proofs.OfficeFacts.{office_facts}
 use Rattle.sql_queries.specs.CountedRecords.{most}
-use Rattle.sql_load_public.proofs.FoundRecordLemmas.{first_passing}
-use Rattle.sql_load_public.proofs.NamedMeetingLemmas.{IsFoundAs, has_name, meeting_found}
+use Rattle.sql_load.proofs.FoundRecordLemmas.{first_passing}
+use Rattle.sql_load.proofs.NamedMeetingLemmas.{IsFoundAs, has_name, meeting_found}
 
 -- a row has the name where a meeting has
 abbrev pub IsNamed : List ℕ → OfficeLists → List MeetingRow → Type 0

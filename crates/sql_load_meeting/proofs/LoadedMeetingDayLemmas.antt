@@ -13,8 +13,8 @@ use Rattle.sql_desk_tables.specs.Versions.{AreNoted, NotesVersion}
 use Rattle.sql_desk_tables.proofs.TableDeskLemmas.{desk_notes}
 use Rattle.sql_assemble.specs.LoadResults.{fault_of_error}
 use Rattle.sql_assemble.specs.declared.fault.LoadError.{LoadError}
-use Rattle.sql_load_public.specs.TableLookUps.{HoldsOfStoredOffice}
-use Rattle.sql_load_public.proofs.FoundRecordLemmas.{error_returns}
+use Rattle.sql_load.specs.TableLookUps.{HoldsOfStoredOffice}
+use Rattle.sql_load.proofs.FoundRecordLemmas.{error_returns}
 
 module _ {S X : Type 0} (g : store.Ghosts S) (a b : Held S) (preserved : HasCleanDisk (state g b) → NotesVersion (state g a).now.schema → KeepsCommit (state g a) (state g b))
     (was_open : WasOpen (state g a) (state g b)) (crash : Survives (state g a) (state g b) (λ _. ⊥)) (R : OfficeLists → X → Type 0) where

@@ -20,9 +20,9 @@ use Rattle.office_decisions.specs.ListsRead.{days_read, first_read, lists_read, 
 use Rattle.party_views.specs.PublicRead.{counted_up_to}
 use Rattle.row_source.specs.LookUps.{register_in}
 use Rattle.sql_assemble.specs.declared.fault.LoadError.{LoadError}
-use Rattle.sql_load_public.specs.MeetingRecords.{AreOnItsResolutions}
-use Rattle.sql_load_public.specs.TableLookUps.{HoldsOfStoredOffice}
-use Rattle.sql_load_public.proofs.StoredOfficeLemmas.{returns_weaker}
+use Rattle.sql_load.specs.MeetingRecords.{AreOnItsResolutions}
+use Rattle.sql_load.specs.TableLookUps.{HoldsOfStoredOffice}
+use Rattle.sql_load.proofs.StoredOfficeLemmas.{returns_weaker}
 use Rattle.sql_load_meeting.specs.MeetingParts.{AreReadFor, IsReadWith}
 
 -- the meeting that is found, or none, with these polls

@@ -5,8 +5,8 @@ ghost use Rattle.party_views.specs.Views.{meeting_at};
 ghost use Rattle.sql_assemble.specs.declared.fault.LoadError.TheVariants.{Memory};
 ghost use Rattle.row_source.specs.LookUps.{appointments_in, authorities_in, casts_in};
 ghost use Rattle.row_source.specs.LookUps.{demands_in, endings_in, presences_in};
-ghost use Rattle.sql_load_public.specs.MeetingRecords.{without_meeting};
-ghost use Rattle.sql_load_public.specs.TableLookUps.{HoldsOfStoredOffice};
+ghost use Rattle.sql_load.specs.MeetingRecords.{without_meeting};
+ghost use Rattle.sql_load.specs.TableLookUps.{HoldsOfStoredOffice};
 ghost use Rattle.proxy_rules.specs.Parties.{is_presence_of};
 ghost use Rattle.vote_rules.specs.TallyLaws.{casts_on};
 
@@ -16,7 +16,7 @@ use desk_words::{
 };
 use keyed_seq::FiledBy;
 use sql_assemble::LoadError;
-use sql_load_public::query_records::records_found;
+use sql_load::query_records::records_found;
 use sql_queries::{appointments, authorities, casts, demands, endings, presences};
 use sql_rows::InMeeting;
 use sql_stored::find;

@@ -10,4 +10,4 @@ mod parts;
 pub use desk::{MeetingCount, read_count, read_keys};
 pub use needed_lists::{OfficeReads, read_rest};
 pub use parts::read_first;
-pub use sql_load_public::read_closed;
+pub use sql_load::read_closed;

@@ -5,7 +5,7 @@ ghost use Rattle.desk_words.specs.declared.office.MeetingLists.{MeetingLists};
 ghost use Rattle.party_views.specs.Views.{meeting_at};
 ghost use Rattle.party_views.specs.PublicRead.{counted};
 ghost use Rattle.office_decisions.specs.ListsRead.{first_read};
-ghost use Rattle.sql_load_public.specs.TableLookUps.{HoldsOfStoredOffice};
+ghost use Rattle.sql_load.specs.TableLookUps.{HoldsOfStoredOffice};
 ghost use Rattle.proxy_rules.specs.Parties.{is_presence_of};
 ghost use Rattle.row_source.specs.LookUps.{casts_in, demands_in, presences_in, register_in};
 ghost use Rattle.vote_rules.specs.TallyLaws.{casts_on};
@@ -19,7 +19,7 @@ use desk_words::{DayList, MeetingId, MeetingLists, OfficeRequest, Party};
 use office_days::Closed;
 use sql_assemble::LoadError;
 use sql_desk_tables::desk;
-use sql_load_public::read_closed;
+use sql_load::read_closed;
 use sqlite::{Alter, Transaction};
 use std::alloc::Global;
 

@@ -5,10 +5,10 @@ ghost use Rattle.party_views.specs.PublicRead.{counted, counted_up_to};
 ghost use Rattle.party_views.specs.Views.{meeting_at};
 ghost use Rattle.office_decisions.specs.ListsRead.{first_read, poll_alone, with_polls};
 ghost use Rattle.row_source.specs.LookUps.{appointments_in, authorities_in, casts_in, demands_in, endings_in, presences_in, register_in};
-ghost use Rattle.sql_load_public.specs.TableLookUps.{HoldsOfStoredOffice};
+ghost use Rattle.sql_load.specs.TableLookUps.{HoldsOfStoredOffice};
 ghost use Rattle.proxy_rules.specs.Parties.{is_presence_of};
 ghost use Rattle.vote_rules.specs.TallyLaws.{casts_on};
-ghost use Rattle.sql_load_public.specs.MeetingRecords.{AreOnItsResolutions};
+ghost use Rattle.sql_load.specs.MeetingRecords.{AreOnItsResolutions};
 ghost use Rattle.sql_load_meeting.specs.MeetingParts.{with_meeting_of, with_shares_of};
 
 use crate::by_receipt::{
@@ -18,8 +18,8 @@ use desk_words::{
     Filed, Listing, Meeting, MeetingId, MeetingLists, OfficeRequest, Party, Poll, RegisterRow,
 };
 use sql_assemble::{LoadError, register_rows};
-use sql_load_public::query_records::{items, records_found};
-use sql_load_public::{counted_of, meeting_for, meeting_of, polls_of, polls_on};
+use sql_load::query_records::{items, records_found};
+use sql_load::{counted_of, meeting_for, meeting_of, polls_of, polls_on};
 use sql_queries::register;
 use sql_stored::find;
 use sqlite::{Alter, Transaction};

@@ -11,8 +11,8 @@ use Rattle.desk_words.specs.declared.office.OfficeLists.{OfficeLists}
 use Rattle.party_views.specs.Views.{meeting_at}
 use Rattle.sql_assemble.specs.declared.fault.LoadError.{LoadError}
 use Rattle.sql_load_party.specs.LookUpSteps.{KeepsStoredTables, LeavesTables, ShowsMeeting}
-use Rattle.sql_load_public.specs.TableLookUps.{HoldsOfStoredOffice, IsLookUpFailure}
-use Rattle.sql_load_public.proofs.StoredOfficeLemmas.{returns_weaker}
+use Rattle.sql_load.specs.TableLookUps.{HoldsOfStoredOffice, IsLookUpFailure}
+use Rattle.sql_load.proofs.StoredOfficeLemmas.{returns_weaker}
 
 module _ {S X : Type 0} (g : store.Ghosts S) (a b : Held S) (result : Result X LoadError) where
   -- what is told of the meeting that the tables show is told of their office

@@ -26,9 +26,9 @@ use Rattle.sql_model.proofs.Names.ListName.{Register}
 use Rattle.sql_model.proofs.ModelOfficeLemmas.{AreOf}
 use Rattle.proxy_rules.specs.Shares.{row_of}
 use Rattle.row_source.specs.LookUps.{register_in}
-use Rattle.sql_load_public.specs.MeetingRecords.{without_meeting}
-use Rattle.sql_load_public.proofs.FoundRecordLemmas.{first_passing}
-use Rattle.sql_load_public.proofs.NamedMeetingLemmas.{list_is, passing}
+use Rattle.sql_load.specs.MeetingRecords.{without_meeting}
+use Rattle.sql_load.proofs.FoundRecordLemmas.{first_passing}
+use Rattle.sql_load.proofs.NamedMeetingLemmas.{list_is, passing}
 
 -- ---- the first that passes
 

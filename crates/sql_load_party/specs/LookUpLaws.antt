@@ -8,11 +8,11 @@ use Rattle.desk_words.specs.ViewTypes.{MeetingName}
 use Rattle.desk_words.specs.declared.office.MeetingLists.{MeetingLists}
 use Rattle.party_views.specs.Views.{meeting_at}
 use Rattle.sql_model.specs.OfficeRecords.{office_in}
-use Rattle.sql_load_office.proofs.ReadingLemmas.{changes_then, desk_same, read_first, read_second, unchanged_then}
+use Rattle.sql_load.proofs.ReadingLemmas.{changes_then, desk_same, read_first, read_second, unchanged_then}
 use Rattle.sql_assemble.specs.declared.fault.LoadError.{LoadError}
 use Rattle.sql_assemble.specs.declared.fault.LoadError.TheVariants.{Memory}
 use Rattle.sql_load_party.specs.LookUpSteps.{KeepsStoredTables, LeavesTables, ShowsMeeting}
-use Rattle.sql_load_public.specs.TableLookUps.{IsLookUpFailure}
+use Rattle.sql_load.specs.TableLookUps.{IsLookUpFailure}
 
 -- want of memory may be met
 pub memory_may_fail : (fault : LoadError) → fault ≡ Memory → IsLookUpFailure fault

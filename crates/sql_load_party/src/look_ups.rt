@@ -11,7 +11,7 @@ ghost use Rattle.party_views.specs.PartyRows.{presences_of};
 ghost use Rattle.party_views.specs.Views.{meeting_at};
 ghost use Rattle.row_source.specs.LookUps.{appointments_in, authorities_in, casts_by, casts_in, naming_by_in, trusting_for_in};
 ghost use Rattle.row_source.specs.LookUps.{demands_in, endings_in, presences_in, register_in};
-ghost use Rattle.sql_load_public.specs.TableLookUps.{HoldsOfStoredOffice};
+ghost use Rattle.sql_load.specs.TableLookUps.{HoldsOfStoredOffice};
 
 use desk_words::{
     Appointment, Authority, CastMark, DemandMark, Ending, Listing, MeetingId, Party, PresenceMark,
@@ -20,7 +20,7 @@ use desk_words::{
 use party_views::OwnCasts;
 use proxy_rules::{Claim, claims_in, shares};
 use sql_assemble::LoadError;
-use sql_load_public::query_records::{counted, first, items, records_found};
+use sql_load::query_records::{counted, first, items, records_found};
 use sql_queries::{appointments, authorities, casts, demands, endings, presences, register};
 use sql_stored::find;
 use sqlite::{Alter, Transaction};

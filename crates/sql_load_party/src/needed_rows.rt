@@ -7,7 +7,7 @@ ghost use Rattle.party_views.specs.Views.{meeting_at};
 ghost use Rattle.sqlite.specs.Held.{state};
 ghost use Rattle.sqlite.specs.State.{HasCleanDisk};
 ghost use Rattle.sql_load_party.specs.LookUpSteps.{KeepsStoredTables, LeavesTables, ShowsMeeting};
-ghost use Rattle.sql_load_public.specs.TableLookUps.{HoldsOfStoredOffice, IsLookUpFailure};
+ghost use Rattle.sql_load.specs.TableLookUps.{HoldsOfStoredOffice, IsLookUpFailure};
 ghost use Rattle.sql_load_party.specs.LookUpLaws as laws;
 
 use crate::look_ups::{

@@ -29,7 +29,7 @@ use Rattle.sql_model.specs.OfficeRecords.{FlatLists, flat_in, lists_of, lists_of
 use Rattle.sql_model.specs.Standing.{IsVersion, Stands}
 use Rattle.sql_model.proofs.ModelOfficeLemmas.{are_of, given}
 use Rattle.sql_rows.proofs.RowMeaningLemmas.{bound}
-use Rattle.sql_load_office.specs.WholeReading.{IsReading}
+use Rattle.sql_load.specs.WholeReading.{IsReading}
 use Rattle.office_validation.specs.Validation.{in_order, office_in_order}
 use Rattle.sql_open.specs.Opening.{IsVerdict}
 use Rattle.sql_open.specs.declared.fault.OpenFault.{OpenFault}

@@ -4,7 +4,7 @@ ghost use Rattle.sql_open.specs.Opening.{create_fault_of, open_fault_of};
 ghost use Rattle.sql_open.specs.Opening.{fault_of_columns, fault_of_reading};
 
 use sql_desk_tables::columns::ColumnError;
-use sql_load_office::LoadError;
+use sql_load::LoadError;
 use sqlite::{Error, ErrorCode};
 
 /// Why a desk was not created.

@@ -28,7 +28,7 @@ use crate::version::{KnownVersion, judge_version};
 use desk_words::OfficeLists;
 use office_validation::office_checked;
 use sql_desk_tables::columns;
-use sql_load_office::read_office;
+use sql_load::read_office;
 use sqlite::{Alter, Connection, Error, ErrorCode, Transaction};
 use std::alloc::Global;
 

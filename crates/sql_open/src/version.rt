@@ -16,7 +16,7 @@ ghost use Rattle.sqlite.specs.State.{HasCleanDisk, Survives};
 use crate::fault::OpenFault;
 use desk_words::Listing;
 use sql_desk_tables::{columns, desk};
-use sql_load_office::LoadError;
+use sql_load::LoadError;
 use sql_rows::{Version, records};
 use sqlite::{Alter, Connection, Transaction};
 use std::alloc::Global;

@@ -1,6 +1,6 @@
 use Rattle.std.proofs.Common.{◌≡◌, Err, ◌∙◌, rules}
 use Rattle.meeting_core.specs.Decisions.{AreRead, party_call}
-use Rattle.sql_load_public.proofs.StoredOfficeLemmas.{holds_after, holds_both, holds_stop}
+use Rattle.sql_load.proofs.StoredOfficeLemmas.{holds_after, holds_both, holds_stop}
 use Rattle.desk_store.specs.TableReads.{IsDecided}
 use Rattle.desk_store.proofs.DeskReadLemmas.{returned_office}
 use Rattle.desk_store.proofs.StepLemmas.{failed_returned}

@@ -8,7 +8,7 @@ use Rattle.party_views.specs.Views.{meeting_at}
 use Rattle.office_decisions.specs.ListsRead.{lists_read}
 use Rattle.meeting_core.specs.Decisions.{AreListsRead, office_call}
 use Rattle.meeting_core.proofs.ReadPreserved.{both_ok}
-use Rattle.sql_load_public.proofs.StoredOfficeLemmas.{holds_after, holds_both, holds_stop}
+use Rattle.sql_load.proofs.StoredOfficeLemmas.{holds_after, holds_both, holds_stop}
 use Rattle.desk_store.specs.TableReads.{IsDecided}
 use Rattle.desk_store.proofs.DecidingLemmas.{meeting_found, returned_made}
 use Rattle.desk_store.proofs.DeskReadLemmas.{mapped_ok, returned_office}

@@ -1,6 +1,6 @@
 use Rattle.std.proofs.Common.{◌≡◌, Err, rules}
 use Rattle.desk_words.specs.declared.request.DeskRequest.TheVariants.{Keys}
-use Rattle.sql_load_public.proofs.StoredOfficeLemmas.{holds_stop}
+use Rattle.sql_load.proofs.StoredOfficeLemmas.{holds_stop}
 use Rattle.desk_store.specs.TableReads.{IsDecidedAlways}
 use Rattle.desk_store.proofs.DecidingLemmas.{returned_made}
 use Rattle.desk_store.proofs.DeskReadLemmas.{returned_office}

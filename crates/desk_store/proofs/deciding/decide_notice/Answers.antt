@@ -2,7 +2,7 @@ use Rattle.std.proofs.Common.{◌≡◌, Err, ◌∙◌, rules}
 use Rattle.desk_words.specs.declared.request.PartyRequest.TheVariants.{Notice}
 use Rattle.meeting_core.specs.Decisions.{AreRead, party_call}
 use Rattle.party_views.specs.Views.{meeting_at}
-use Rattle.sql_load_public.proofs.StoredOfficeLemmas.{holds_stop}
+use Rattle.sql_load.proofs.StoredOfficeLemmas.{holds_stop}
 use Rattle.desk_store.specs.TableReads.{IsDecided}
 use Rattle.desk_store.proofs.DeskReadLemmas.{returned_office}
 use Rattle.desk_store.proofs.DecidingLemmas.{notice_rows}

@@ -2,8 +2,8 @@ use Rattle.std.proofs.Common.{refl}
 use Rattle.sql_schema.specs.Contents as table
 use Rattle.sql_model.proofs.ListChanges.{list_of}
 use Rattle.sql_model.proofs.Names.ListName.{Appointments}
-use Rattle.sql_load_public.proofs.FoundRecordLemmas.{items_returned}
-use Rattle.sql_load_public.proofs.NamedMeetingLemmas.{list_is}
+use Rattle.sql_load.proofs.FoundRecordLemmas.{items_returned}
+use Rattle.sql_load.proofs.NamedMeetingLemmas.{list_is}
 use Rattle.sql_load_meeting.proofs.by_receipt.appointments_of.Goals as goal
 
 pub returns-clause-holds : goal.returns-clause-holds

@@ -1,5 +1,5 @@
 use Rattle.std.proofs.Common.{◌≡◌, map}
-use Rattle.sql_load_public.specs.MeetingRecords.{without_meeting}
+use Rattle.sql_load.specs.MeetingRecords.{without_meeting}
 use Rattle.sql_load_meeting.proofs.by_receipt.filed.Given as goal
 
 -- the items of the records that were taken

@@ -3,8 +3,8 @@ use Rattle.sql_rows.specs.Marks.{presence_in}
 use Rattle.sql_schema.specs.Contents as table
 use Rattle.sql_model.proofs.ListChanges.{list_of}
 use Rattle.sql_model.proofs.Names.ListName.{Presences}
-use Rattle.sql_load_public.proofs.FoundRecordLemmas.{items_returned}
-use Rattle.sql_load_public.proofs.NamedMeetingLemmas.{list_is}
+use Rattle.sql_load.proofs.FoundRecordLemmas.{items_returned}
+use Rattle.sql_load.proofs.NamedMeetingLemmas.{list_is}
 use Rattle.sql_load_meeting.proofs.by_receipt.presences_of.Goals as goal
 
 pub returns-clause-holds : goal.returns-clause-holds

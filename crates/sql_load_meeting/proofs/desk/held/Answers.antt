@@ -1,6 +1,6 @@
 use Rattle.std.proofs.Common.{◌≡◌, length, true}
 use Rattle.sql_schema.specs.Contents as table
-use Rattle.sql_load_public.proofs.FoundRecordLemmas.{count_returned}
+use Rattle.sql_load.proofs.FoundRecordLemmas.{count_returned}
 use Rattle.sql_load_meeting.proofs.LoadedMeetingCountLemmas.{held_so}
 use Rattle.sql_load_meeting.proofs.desk.held.Goals as goal
 

@@ -1,8 +1,8 @@
 use Rattle.std.proofs.Common.{◌≡◌, Err, ap, ◌∙◌, rules}
 use Rattle.std.specs.Prelude.{is_some}
 use Rattle.sql_schema.specs.Contents as table
-use Rattle.sql_load_public.proofs.FoundRecordLemmas.{found_returned}
-use Rattle.sql_load_public.proofs.StoredOfficeLemmas.{holds_so, holds_stop}
+use Rattle.sql_load.proofs.FoundRecordLemmas.{found_returned}
+use Rattle.sql_load.proofs.StoredOfficeLemmas.{holds_so, holds_stop}
 use Rattle.sql_load_meeting.proofs.LoadedMeetingCountLemmas.{IsNamed, named_so}
 use Rattle.sql_load_meeting.proofs.desk.is_named.Goals as goal
 

@@ -1,5 +1,5 @@
 use Rattle.std.proofs.Common.{◌≡◌, Err, rules}
-use Rattle.sql_load_public.proofs.StoredOfficeLemmas.{holds_after, holds_both, holds_so, holds_stop}
+use Rattle.sql_load.proofs.StoredOfficeLemmas.{holds_after, holds_both, holds_so, holds_stop}
 use Rattle.sql_load_meeting.proofs.desk.read_count.Goals as goal
 
 pub returns-in_err-held-clause-holds : goal.returns-in_err-held-clause-holds

@@ -7,9 +7,9 @@ use Rattle.desk_words.proofs.OfficeFacts.{office_facts}
 use Rattle.sql_schema.specs.Contents as table
 use Rattle.sql_schema.specs.Statements.{records_in}
 use Rattle.sql_model.proofs.FlatChanges.{keys_held}
-use Rattle.sql_load_public.proofs.FoundRecordLemmas.{yields_return}
-use Rattle.sql_load_public.proofs.PublicRecordLemmas.{reading_returned}
-use Rattle.sql_load_public.proofs.StoredOfficeLemmas.{holds_so, holds_stop}
+use Rattle.sql_load.proofs.FoundRecordLemmas.{yields_return}
+use Rattle.sql_load.proofs.PublicRecordLemmas.{reading_returned}
+use Rattle.sql_load.proofs.StoredOfficeLemmas.{holds_so, holds_stop}
 use Rattle.sql_load_meeting.proofs.desk.read_keys.Goals as goal
 
 -- the keys are the office's once they are in order

@@ -4,7 +4,7 @@ use Rattle.party_views.specs.Views.{meeting_at}
 use Rattle.row_source.specs.LookUps.{casts_in}
 use Rattle.vote_rules.specs.TallyLaws.{casts_on}
 use Rattle.sql_load_meeting.specs.MeetingParts.{with_shares_of}
-use Rattle.sql_load_public.proofs.StoredOfficeLemmas.{holds_after, holds_both, holds_so, holds_stop}
+use Rattle.sql_load.proofs.StoredOfficeLemmas.{holds_after, holds_both, holds_so, holds_stop}
 use Rattle.sql_load_meeting.proofs.needed_lists.for_count.Goals as goal
 
 pub returns-in_err-add_resolutions-clause-holds : goal.returns-in_err-add_resolutions-clause-holds

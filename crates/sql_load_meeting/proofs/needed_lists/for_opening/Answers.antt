@@ -3,7 +3,7 @@ use Rattle.desk_words.specs.declared.office.MeetingLists.{MeetingLists}
 use Rattle.party_views.specs.Views.{meeting_at}
 use Rattle.row_source.specs.LookUps.{presences_in}
 use Rattle.sql_load_meeting.specs.MeetingParts.{with_shares_of}
-use Rattle.sql_load_public.proofs.StoredOfficeLemmas.{holds_after, holds_both, holds_so, holds_stop}
+use Rattle.sql_load.proofs.StoredOfficeLemmas.{holds_after, holds_both, holds_so, holds_stop}
 use Rattle.sql_load_meeting.proofs.needed_lists.for_opening.Goals as goal
 
 pub returns-in_err-add_count-clause-holds : goal.returns-in_err-add_count-clause-holds

@@ -1,5 +1,5 @@
 use Rattle.std.proofs.Common.{◌≡◌, Err, rules}
-use Rattle.sql_load_public.proofs.StoredOfficeLemmas.{holds_stop}
+use Rattle.sql_load.proofs.StoredOfficeLemmas.{holds_stop}
 use Rattle.sql_load_meeting.proofs.needed_lists.read_rest.Goals as goal
 
 pub returns-in_err-closed-clause-holds : goal.returns-in_err-closed-clause-holds

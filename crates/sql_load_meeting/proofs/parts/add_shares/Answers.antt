@@ -2,7 +2,7 @@ use Rattle.std.proofs.Common.{◌≡◌, Err, ap, ◌∙◌, rules}
 use Rattle.desk_words.specs.declared.office.MeetingLists.{MeetingLists}
 use Rattle.party_views.specs.Views.{meeting_at}
 use Rattle.row_source.specs.LookUps.{appointments_in, authorities_in, endings_in}
-use Rattle.sql_load_public.proofs.StoredOfficeLemmas.{holds_after, holds_both, holds_so, holds_stop}
+use Rattle.sql_load.proofs.StoredOfficeLemmas.{holds_after, holds_both, holds_so, holds_stop}
 use Rattle.sql_load_meeting.proofs.parts.add_shares.Goals as goal
 
 pub returns-in_err-add_appointments-clause-holds : goal.returns-in_err-add_appointments-clause-holds

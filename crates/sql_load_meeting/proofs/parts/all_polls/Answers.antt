@@ -2,8 +2,8 @@ use Rattle.std.proofs.Common.{◌≡◌, List, ℕ, None, ◌∙◌}
 use Rattle.desk_words.specs.declared.office.OfficeLists.{OfficeLists}
 use Rattle.desk_words.specs.declared.records.Poll.{Poll}
 use Rattle.party_views.specs.Views.{meeting_at, polls_in}
-use Rattle.sql_load_public.proofs.CountedRecordLemmas.{on_resolutions}
-use Rattle.sql_load_public.proofs.StoredOfficeLemmas.{returned_so, returned_then}
+use Rattle.sql_load.proofs.CountedRecordLemmas.{on_resolutions}
+use Rattle.sql_load.proofs.StoredOfficeLemmas.{returned_so, returned_then}
 use Rattle.sql_load_meeting.proofs.LoadedMeetingPartLemmas.{IsWith, IsWithPart, with_its}
 use Rattle.sql_load_meeting.proofs.parts.all_polls.Goals as goal
 

@@ -4,8 +4,8 @@ use Rattle.desk_words.specs.declared.office.MeetingLists.{MeetingLists}
 use Rattle.office_decisions.specs.ListsRead.{with_polls}
 use Rattle.party_views.specs.PublicRead.{counted_up_to}
 use Rattle.party_views.specs.Views.{meeting_at}
-use Rattle.sql_load_public.specs.MeetingRecords.{are_on}
-use Rattle.sql_load_public.proofs.StoredOfficeLemmas.{returned_so}
+use Rattle.sql_load.specs.MeetingRecords.{are_on}
+use Rattle.sql_load.proofs.StoredOfficeLemmas.{returned_so}
 use Rattle.sql_load_meeting.proofs.LoadedMeetingPartLemmas.{IsWith, IsWithPart}
 use Rattle.sql_load_meeting.proofs.parts.meeting_alone.Goals as goal
 

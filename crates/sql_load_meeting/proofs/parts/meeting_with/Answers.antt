@@ -1,8 +1,8 @@
 use Rattle.std.proofs.Common.{◌≡◌, List, Some, ap, length, sym, ◌∙◌}
 use Rattle.std.specs.Prelude.{Option}
 use Rattle.desk_words.specs.declared.records.Poll.{Poll}
-use Rattle.sql_load_public.specs.MeetingRecords.{AreOnItsResolutions, are_on}
-use Rattle.sql_load_public.proofs.StoredOfficeLemmas.{holds_so}
+use Rattle.sql_load.specs.MeetingRecords.{AreOnItsResolutions, are_on}
+use Rattle.sql_load.proofs.StoredOfficeLemmas.{holds_so}
 use Rattle.party_views.specs.Views.{meeting_at}
 use Rattle.desk_words.specs.declared.office.MeetingLists.{MeetingLists}
 use Rattle.sql_load_meeting.proofs.LoadedMeetingPartLemmas.{with_these}

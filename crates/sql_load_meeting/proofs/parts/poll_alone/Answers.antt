@@ -3,8 +3,8 @@ use Rattle.desk_words.specs.declared.office.OfficeLists.{OfficeLists}
 use Rattle.desk_words.specs.declared.records.Poll.{Poll}
 use Rattle.party_views.specs.RowsRead.{polls_on}
 use Rattle.party_views.specs.Views.{meeting_at, polls_in}
-use Rattle.sql_load_public.proofs.CountedRecordLemmas.{on_its_resolution}
-use Rattle.sql_load_public.proofs.StoredOfficeLemmas.{returned_so, returned_then}
+use Rattle.sql_load.proofs.CountedRecordLemmas.{on_its_resolution}
+use Rattle.sql_load.proofs.StoredOfficeLemmas.{returned_so, returned_then}
 use Rattle.sql_load_meeting.proofs.LoadedMeetingPartLemmas.{IsWith, IsWithPart, with_its}
 use Rattle.sql_load_meeting.proofs.parts.poll_alone.Goals as goal
 

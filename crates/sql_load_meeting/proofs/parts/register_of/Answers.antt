@@ -9,9 +9,9 @@ use Rattle.sql_model.proofs.ListChanges.{list_of}
 use Rattle.sql_model.proofs.Names.ListName.{Register}
 use Rattle.desk_words.specs.Office.{are_rows}
 use Rattle.row_source.specs.LookUps.{register_in}
-use Rattle.sql_load_public.proofs.FoundRecordLemmas.{items_returned, yields_return}
-use Rattle.sql_load_public.proofs.NamedMeetingLemmas.{list_is}
-use Rattle.sql_load_public.proofs.StoredOfficeLemmas.{holds_so, holds_stop}
+use Rattle.sql_load.proofs.FoundRecordLemmas.{items_returned, yields_return}
+use Rattle.sql_load.proofs.NamedMeetingLemmas.{list_is}
+use Rattle.sql_load.proofs.StoredOfficeLemmas.{holds_so, holds_stop}
 use Rattle.sql_load_meeting.proofs.LoadedMeetingPartLemmas.{register_right}
 use Rattle.sql_load_meeting.proofs.parts.register_of.Goals as goal
 

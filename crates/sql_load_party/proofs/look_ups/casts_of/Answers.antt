@@ -3,7 +3,7 @@ use Rattle.proxy_rules.specs.Parties.{is_cast_by}
 use Rattle.sql_schema.specs.Contents as table
 use Rattle.sql_model.proofs.ListChanges.{list_of}
 use Rattle.sql_model.proofs.Names.ListName.{Casts}
-use Rattle.sql_load_public.proofs.FoundRecordLemmas.{items_returned, received_so}
+use Rattle.sql_load.proofs.FoundRecordLemmas.{items_returned, received_so}
 use Rattle.sql_load_party.proofs.look_ups.casts_of.Goals as goal
 
 pub returns-clause-holds : goal.returns-clause-holds

@@ -1,7 +1,7 @@
 use Rattle.std.proofs.Common.{List, map, ap, ◌∙◌}
 use Rattle.desk_words.specs.declared.records.Appointment.{Appointment}
 use Rattle.proxy_rules.specs.Holdings.{claim_of}
-use Rattle.sql_load_public.proofs.StoredOfficeLemmas.{holds_so}
+use Rattle.sql_load.proofs.StoredOfficeLemmas.{holds_so}
 use Rattle.sql_load_party.proofs.look_ups.claims_by.Goals as goal
 
 pub returns-clause-holds : goal.returns-clause-holds

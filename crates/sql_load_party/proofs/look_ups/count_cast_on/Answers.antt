@@ -1,5 +1,5 @@
 use Rattle.sql_schema.specs.Contents as table
-use Rattle.sql_load_public.proofs.FoundRecordLemmas.{count_returned}
+use Rattle.sql_load.proofs.FoundRecordLemmas.{count_returned}
 use Rattle.sql_load_party.proofs.CountedCastLemmas.{count_is}
 use Rattle.sql_load_party.proofs.look_ups.count_cast_on.Goals as goal
 

@@ -1,5 +1,5 @@
 use Rattle.std.proofs.Common.{length, ap, ◌∙◌}
-use Rattle.sql_load_public.proofs.StoredOfficeLemmas.{holds_so}
+use Rattle.sql_load.proofs.StoredOfficeLemmas.{holds_so}
 use Rattle.sql_load_party.proofs.look_ups.count_given_by.Goals as goal
 
 pub returns-clause-holds : goal.returns-clause-holds

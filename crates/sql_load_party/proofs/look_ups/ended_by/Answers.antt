@@ -4,7 +4,7 @@ use Rattle.sql_rows.specs.AppointmentRows.{ending_in}
 use Rattle.sql_schema.specs.Contents as table
 use Rattle.sql_model.proofs.ListChanges.{list_of}
 use Rattle.sql_model.proofs.Names.ListName.{Endings}
-use Rattle.sql_load_public.proofs.FoundRecordLemmas.{items_returned, received_so}
+use Rattle.sql_load.proofs.FoundRecordLemmas.{items_returned, received_so}
 use Rattle.sql_load_party.proofs.look_ups.ended_by.Goals as goal
 
 pub returns-clause-holds : goal.returns-clause-holds

@@ -4,7 +4,7 @@ use Rattle.party_views.proofs.OwnLemmas.{filter-swap}
 use Rattle.proxy_rules.specs.Holdings.{is_given_by}
 use Rattle.proxy_rules.specs.Parties.{names}
 use Rattle.row_source.specs.LookUps.{appointments_in}
-use Rattle.sql_load_public.proofs.StoredOfficeLemmas.{holds_so}
+use Rattle.sql_load.proofs.StoredOfficeLemmas.{holds_so}
 use Rattle.sql_load_party.proofs.look_ups.naming_by.Goals as goal
 
 pub returns-clause-holds : goal.returns-clause-holds

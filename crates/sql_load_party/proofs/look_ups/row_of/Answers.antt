@@ -5,9 +5,9 @@ use Rattle.desk_words.specs.declared.records.RegisterRow.{RegisterRow}
 use Rattle.sql_schema.specs.Contents as table
 use Rattle.proxy_rules.specs.Shares as shares
 use Rattle.row_source.specs.LookUps.{register_in}
-use Rattle.sql_load_public.proofs.FoundRecordLemmas.{items_returned}
+use Rattle.sql_load.proofs.FoundRecordLemmas.{items_returned}
 use Rattle.sql_load_party.proofs.LoadedPartyRowLemmas.{row_so}
-use Rattle.sql_load_public.proofs.StoredOfficeLemmas.{holds_so, holds_stop}
+use Rattle.sql_load.proofs.StoredOfficeLemmas.{holds_so, holds_stop}
 use Rattle.sql_load_party.proofs.look_ups.row_of.Goals as goal
 
 -- the first of the rows is the member's, if it has one

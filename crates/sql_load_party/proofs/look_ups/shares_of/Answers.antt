@@ -3,7 +3,7 @@ use Rattle.std.specs.Prelude.{Option}
 use Rattle.std.specs.Option.{option_map_or}
 use Rattle.desk_words.specs.declared.records.RegisterRow.{RegisterRow}
 use Rattle.proxy_rules.specs.Shares.{shares_of}
-use Rattle.sql_load_public.proofs.StoredOfficeLemmas.{holds_so}
+use Rattle.sql_load.proofs.StoredOfficeLemmas.{holds_so}
 use Rattle.sql_load_party.proofs.look_ups.shares_of.Goals as goal
 
 pub returns-clause-holds : goal.returns-clause-holds

@@ -1,0 +1,16 @@
+use Rattle.std.proofs.Common.{◌≡◌, Err, ◌∙◌, rules}
+use Rattle.sql_load.proofs.CountedRecordLemmas.{on_resolutions}
+use Rattle.sql_load.proofs.StoredOfficeLemmas.{holds_after, holds_both, holds_so, holds_stop}
+use Rattle.sql_load.proofs.public.read_without_texts.Goals as goal
+
+pub returns-in_err-found-clause-holds : goal.returns-in_err-found-clause-holds
+returns-in_err-found-clause-holds g c =
+    let is : c.from_residual-in_err-found.result ≡ Err c.in_err-found.field-0.0 = search rules in
+    holds_after g.S.Store _ _ _ c.in_ok-polls.polls _ _ _ (holds_both g.S.Store _ _ _ c.in_ok-closed.closed c.in_ok-polls.polls _ _ c.in_ok-closed.ensures.holds c.in_ok-polls.ensures.holds)
+    (holds_stop g.S.Store _ _ _ _ c.in_err-found.field-0.0 c.from_residual-in_err-found.result is c.in_err-found.ensures.holds)
+
+pub returns-clause-holds : goal.returns-clause-holds
+returns-clause-holds g c =
+    holds_so g.S.Store _ _ _ _ c.in_ok-found.found _
+    (holds_both g.S.Store _ _ _ c.in_ok-polls.polls c.in_ok-found.found _ _ (holds_both g.S.Store _ _ _ c.in_ok-closed.closed c.in_ok-polls.polls _ _ c.in_ok-closed.ensures.holds c.in_ok-polls.ensures.holds) c.in_ok-found.ensures.holds)
+    (λ office holds p. λ i. record { closed = p.0.0 i; meeting = p.1 (on_resolutions office c.args.meeting holds c.as_slice.result.now (c.as_slice.ensures ∙ p.0.1)) i; polls = p.0.1 i })

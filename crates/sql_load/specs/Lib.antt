@@ -1,0 +1,4 @@
+pub mod MeetingParts
+pub mod MeetingRecords
+pub mod TableLookUps
+pub mod WholeReading

@@ -1,2 +1,0 @@
-pub mod MeetingParts
-pub mod WholeReading

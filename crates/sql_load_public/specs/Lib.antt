@@ -1,2 +1,0 @@
-pub mod MeetingRecords
-pub mod TableLookUps
