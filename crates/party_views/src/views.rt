@@ -93,5 +93,6 @@ pub struct OwnView {
     pub presences: Listing<u64>,
     /// The polls that it demanded (sections 321 and 329).
     pub demands: Listing<DemandMark>,
+    /// The votes that it cast (sections 284 and 322).
     pub casts: OwnCasts,
 }
