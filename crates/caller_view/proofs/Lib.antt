@@ -1,4 +1,3 @@
 mod PartyCastLemmas
 pub mod PartyReadLemmas
-pub mod PublicReadLemmas
 mod RightsLemmas

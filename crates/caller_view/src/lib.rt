@@ -5,7 +5,6 @@ mod answers;
 mod appointments;
 mod attendance;
 mod casts;
-pub mod laws;
 mod notices;
 mod rights;
 

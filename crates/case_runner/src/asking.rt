@@ -8,7 +8,7 @@ use crate::calls;
 use crate::faults::open_word;
 use crate::looking::{look, open_any, read};
 use case_desks::{Asked, Outcome, ask_office, word};
-use desk_store::Desk;
+use desk_store::CachingDesk;
 use sqlite::{Alter, Connection};
 use std::alloc::Global;
 
@@ -38,7 +38,7 @@ fn open<S: Alter + Drop>(alloc: Global, conn: Connection<S>, asked: &Asked) -> (
 {
     match sql_open::open_risen(alloc, conn) {
         Ok((opened, _)) => {
-            let mut desk = Desk::of_opened(alloc, opened);
+            let mut desk = CachingDesk::of_opened(alloc, opened);
             let answer = ask_office(alloc, &mut desk, asked);
             (answer, desk.close().into_store())
         }

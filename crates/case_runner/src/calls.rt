@@ -4,7 +4,7 @@ use crate::faults::{create_word, open_word};
 use byte_io::Sink;
 use case_desks::{Asker, is_given};
 use cli_exit::Ended;
-use desk_file::results;
+use desk_papers::show_results;
 use desk_store::{Desk, HandedBack, OwnedRecord};
 use desk_words::{Failure, MeetingId};
 use meeting_core::Book;
@@ -19,7 +19,10 @@ pub fn print<S: Alter, W: Sink>(
     meeting: MeetingId,
     sink: &mut W,
 ) -> Ended {
-    results(alloc, desk, meeting, sink)
+    match desk.read_public(meeting) {
+        Ok(found) => show_results(alloc, &found.record(), sink),
+        Err(failure) => Ended::by_failure(failure),
+    }
 }
 
 /// What a desk holds.

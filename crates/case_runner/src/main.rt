@@ -12,6 +12,7 @@ mod calls;
 mod disks;
 mod faults;
 mod looking;
+mod plain;
 mod tables;
 mod two_files;
 

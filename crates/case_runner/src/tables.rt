@@ -1,10 +1,11 @@
 //! A database in memory, with a desk over it or without.
 use crate::calls;
+use crate::plain::PlainDesk;
 use byte_io::{SliceSource, VecSink};
 use case_desks::{Asker, MemoryDesk};
 use case_steps::Handed;
 use cli_exit::Ended;
-use desk_store::{Desk, HandedBack};
+use desk_store::HandedBack;
 use desk_words::{Call, Caller, Failure, MeetingId, Moment, SecretKey};
 use meeting_core::Book;
 use sqlite::{Connection, MemStore};
@@ -17,7 +18,7 @@ pub enum Held {
     /// In a database that no desk has.
     Connection(Connection<MemStore>),
     /// With a desk.
-    Desk(Desk<MemStore>),
+    Desk(PlainDesk<MemStore>),
     /// A refusal handed back their store alone.
     Nowhere,
 }
@@ -42,7 +43,7 @@ fn created(alloc: Global, conn: Connection<MemStore>) -> (Held, &'static str) {
         return (Held::Connection(conn), "a transaction");
     }
     match calls::create(alloc, conn) {
-        Ok(desk) => (Held::Desk(desk), "created"),
+        Ok(desk) => (Held::Desk(PlainDesk { desk }), "created"),
         Err((word, conn)) => (Held::Connection(conn), word),
     }
 }
@@ -53,14 +54,14 @@ fn opened(alloc: Global, conn: Connection<MemStore>) -> (Held, &'static str) {
         return (Held::Connection(conn), "a transaction");
     }
     match calls::open(alloc, conn) {
-        Ok(desk) => (Held::Desk(desk), "opened"),
+        Ok(desk) => (Held::Desk(PlainDesk { desk }), "opened"),
         Err((word, HandedBack::Connection(conn))) => (Held::Connection(conn), word),
         Err((word, HandedBack::Store(_))) => (Held::Nowhere, word),
     }
 }
 
 impl Tables {
-    fn desk(&mut self) -> Option<&mut Desk<MemStore>> {
+    fn desk(&mut self) -> Option<&mut PlainDesk<MemStore>> {
         match &mut self.held {
             Held::Desk(desk) => Some(desk),
             _ => None,
@@ -94,7 +95,7 @@ impl MemoryDesk for Tables {
 
     fn close(&mut self) -> &'static str {
         let (held, word) = match mem::replace(&mut self.held, Held::Nowhere) {
-            Held::Desk(desk) => (Held::Connection(desk.close()), "closed"),
+            Held::Desk(plain) => (Held::Connection(plain.into_desk().close()), "closed"),
             held => (held, "no desk"),
         };
         self.held = held;
@@ -135,7 +136,7 @@ impl MemoryDesk for Tables {
 
     fn results(&mut self, meeting: MeetingId, sink: &mut VecSink) -> Option<Ended> {
         let alloc = self.alloc;
-        Some(calls::print(alloc, self.desk()?, meeting, sink))
+        Some(calls::print(alloc, &mut self.desk()?.desk, meeting, sink))
     }
 
     fn caller_of(&mut self, key: &SecretKey) -> Option<Result<Option<Caller>, Failure>> {
@@ -143,13 +144,13 @@ impl MemoryDesk for Tables {
     }
 
     fn book(&mut self) -> Option<Result<Book, Failure>> {
-        Some(calls::book(self.desk()?))
+        Some(calls::book(&mut self.desk()?.desk))
     }
 
     fn reads_like(&mut self, asker: &Asker, book: &Book) -> Result<bool, AllocError> {
         let alloc = self.alloc;
         match self.desk() {
-            Some(desk) => calls::reads_like(alloc, desk, asker, book),
+            Some(plain) => calls::reads_like(alloc, &mut plain.desk, asker, book),
             None => Ok(false),
         }
     }

@@ -6,7 +6,7 @@ ghost use Rattle.desk_file.specs.FileEnds.{ended_by_error};
 use crate::printing::results;
 use byte_io::Sink;
 use cli_exit::{Ended, ExitError};
-use desk_store::Desk;
+use desk_store::CachingDesk;
 use desk_words::MeetingId;
 use file_probe::DeskFileError;
 use host::OfficeFiles;
@@ -17,7 +17,7 @@ use std::alloc::Global;
 
 /// The desk of one company in a file.
 pub struct DiskDesk<S: Alter> {
-    pub(crate) desk: Desk<S>,
+    pub(crate) desk: CachingDesk<S>,
 }
 
 impl<S: Alter + Drop> Drop for DiskDesk<S> {
@@ -28,7 +28,7 @@ impl<S: Alter + Drop> Drop for DiskDesk<S> {
 
 impl<S: Alter + Drop> DiskDesk<S> {
     /// The desk itself.
-    fn into_desk(self) -> Desk<S>
+    fn into_desk(self) -> CachingDesk<S>
         ensures { result ≡ self.desk }
     {
         let DiskDesk { desk } = self;
@@ -117,7 +117,7 @@ impl<S: TableFile> OfficeFiles for DiskFiles<S> {
     fn open(&mut self, alloc: Global, name: &str) -> Result<DiskDesk<S>, Ended> {
         match sql_file::open(alloc, &mut self.files, name) {
             Ok(conn) => Ok(DiskDesk {
-                desk: Desk::of_opened(alloc, conn),
+                desk: CachingDesk::of_opened(alloc, conn),
             }),
             Err(error) => Err(by_error(error)),
         }

@@ -11,7 +11,7 @@ ghost use Rattle.sqlite.specs.State.{HasCleanDisk, Survives};
 
 use byte_io::Sink;
 use cli_exit::Ended;
-use desk_store::Desk;
+use desk_store::CachingDesk;
 use desk_words::MeetingId;
 use sqlite::Alter;
 use std::alloc::Global;
@@ -25,7 +25,7 @@ use std::alloc::Global;
 #[tactic(auto, using(crate::proofs::PrintLemmas::not_begun))]
 pub fn results<S: Alter, W: Sink>(
     alloc: Global,
-    desk: &mut Desk<S>,
+    desk: &mut CachingDesk<S>,
     meeting: MeetingId,
     writer: &mut W,
 ) -> Ended

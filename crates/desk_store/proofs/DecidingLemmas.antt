@@ -1,7 +1,8 @@
 -- What is decided of what was told of the office.
-use Rattle.std.proofs.Common.{◌≡◌, Option, Some, None, Ok, Result, IfOk, IsTrue, refl, subst, sym, ◌∙◌}
+use Rattle.std.proofs.Common.{◌≡◌, Option, Some, None, Ok, Result, IfOk, IsTrue, refl, subst, sym, ◌∙◌, arith}
 use Rattle.std.specs.Prelude.{option_map}
-use Rattle.sqlite.specs.Held.{Held}
+use Rattle.sqlite.specs.Held.{Held, state}
+use Rattle.sqlite.specs.State.{HasCleanDisk}
 use Rattle.sqlite_trees.specs.declared.store.Store as store
 use Rattle.desk_words.specs.Changes.{applied_if_any}
 use Rattle.desk_words.specs.Office.{is_office}
@@ -19,10 +20,14 @@ use Rattle.party_views.specs.RowsRead.{own_rows_read}
 use Rattle.desk_words.specs.declared.request.OfficeRequest.{OfficeRequest}
 use Rattle.office_decisions.specs.ListsRead.{first_read}
 use Rattle.meeting_core.specs.Step.{decided}
+use Rattle.sql_model.specs.Standing.{Stands}
 use Rattle.sql_assemble.specs.declared.fault.LoadError.{LoadError}
 use Rattle.sql_load.specs.TableLookUps.{HoldsOfStoredOffice}
 use Rattle.desk_store.specs.TableReads.{IsDecided, HoldsOfTables}
+use Rattle.std.proofs.lemmas.Result.{on_ok_weaker}
+use Rattle.sql_load.proofs.ReadingLemmas.{changes_then, read_first, read_second, unchanged_then}
 use Rattle.desk_store.proofs.DeskReadLemmas.{always, ok_weaker}
+use Rattle.desk_store.proofs.KeepingLemmas.{stands_same}
 
 module _ {S : Type 0} (g : store.Ghosts S) (a b : Held S) where
   -- what is made of what was told
@@ -42,6 +47,35 @@ module _ {S : Type 0} (g : store.Ghosts S) (a b : Held S) where
     same = returned.same;
     changes = returned.changes;
   }
+
+  -- what is told where something is so, is told where it is so of the office for which the tables stand
+  pub holds_where : {X : Type 0} (r : Result X LoadError) (IsSo : OfficeLists → Type 0) (P : OfficeLists → X → Type 0) → HoldsOfTables g a b r (λ office x. IsSo office → P office x)
+      → (HasCleanDisk (state g a) → (office : OfficeLists) → Stands (state g a) office → IsSo office) → HoldsOfTables g a b r P
+  holds_where r IsSo P told so = record {
+    holds = λ clean office stands.
+        let early : HasCleanDisk (state g a) = omega (arith, told.changes.crash.clean, clean) in
+        ok_weaker (λ x. IsSo office → P office x) (P office) r (λ x next. next (so early office stands)) (told.holds clean office stands);
+    same = told.same;
+    changes = told.changes;
+  }
+
+  -- what is told is told where something is so, too
+  pub holds_there : {X : Type 0} (r : Result X LoadError) (IsSo : OfficeLists → Type 0) (P : OfficeLists → X → Type 0) → HoldsOfTables g a b r P → HoldsOfTables g a b r (λ office x. IsSo office → P office x)
+  holds_there r IsSo P told = returned_also r P (λ office x. IsSo office → P office x) told (λ office preserved x is _. is)
+
+-- what is told of what was read before
+pub holds_next : {S X Y : Type 0} (g : store.Ghosts S) (a b c : Held S) (x : X) (r : Result Y LoadError) (P : OfficeLists → X → Type 0) (Q : OfficeLists → Y → Type 0) → HoldsOfStoredOffice g a b (Ok x) P → HoldsOfTables g b c r (λ office y. P office x → Q office y)
+    → HoldsOfTables g a c r Q
+holds_next g a b c x r P Q one two = record {
+  holds = λ clean office stands.
+      let early : HasCleanDisk (state g b) = omega (arith, two.changes.crash.clean, clean) in
+      let same = one.same (early, stands.desk) in
+      ok_weaker (λ y. P office x → Q office y) (Q office) r (λ y next. next (one.holds (early, stands.desk) office stands.holds stands.preserved)) (two.holds clean office (stands_same (state g a) (state g b) office same.0.now_is stands));
+  same = λ read.
+      let same = one.same (read_first g a b c two.changes.crash read) in
+      on_ok_weaker r (unchanged_then (state g a) (state g b) (state g c) same) (two.same (read_second g a b c same read));
+  changes = changes_then g a b c one.same one.changes two.changes;
+}
 
 -- a call that every office refuses so
 pub decided_so : (call : Call) (refusal : Refusal) → ((office : OfficeLists) → decided office call ≡ refused refusal) → (office : OfficeLists) → IsTrue (is_office office) → (answer : Answer Change) → answer ≡ refused refusal → IsDecided call office answer

@@ -1,5 +1,5 @@
 -- What is left of a desk where what was done in a transaction is committed, or its commit fails.
-use Rattle.std.proofs.Common.{◌≡◌, inl, inr, [], Option, None, Ok, Err, Result, IsErr, true, false, IsTrue, sym, ap, subst, ◌∙◌, true≢false, arith}
+use Rattle.std.proofs.Common.{◌≡◌, inl, inr, List, [], Option, None, Ok, Err, Result, IsErr, true, false, IsTrue, sym, ap, subst, ◌∙◌, true≢false, arith}
 use Rattle.sqlite.specs.Effect.{Database, IsDatabase}
 use Rattle.sqlite.specs.Held.{Held, state}
 use Rattle.sqlite.specs.State.{State, HasCleanDisk, IsRolledBack, IsUnchanged, KeepsCommit, KeepsCounts, Shows, Survives}
@@ -22,6 +22,8 @@ use Rattle.meeting_core.specs.Step.{stepped}
 use Rattle.sql_assemble.specs.declared.fault.LoadError.{LoadError}
 use Rattle.any_office.specs.StoredOffice.{office_after, made_by}
 use Rattle.desk_store.specs.Joins.{AreAfter, IsAsItWas, IsDeskIfOpen, LeavesDesk}
+use Rattle.desk_store.specs.Cache.{AreRecordsOf}
+use Rattle.desk_store.specs.declared.cache.CachedRecord.{CachedRecord}
 use Rattle.desk_store.specs.TableReads.{HoldsOfTables}
 use Rattle.desk_store.proofs.KeepingLemmas.{stands_same}
 
@@ -42,7 +44,7 @@ IsOver mid end = IsTrue mid.in_transaction × Shows mid end mid.now mid.now fals
 -- behind it a crash leaves the tables that are read
 pub itself_after : {S : Type 0} (g : store.Ghosts S) (mid end : Held S) → ((s : S) (db : Trees) → IsTrue (g.view s).is_open → g.recovers s db → db ≡ (g.view s).committed) → ((s : S) → IsTrue (g.view s).is_open → g.recovers s (g.view s).committed)
     → IsOver (state g mid) (state g end) → LeavesItself (state g end)
-itself_after g mid end settled stays over = leaves_itself g end settled stays over.1.is_open (over.1.now_is ∙ sym over.1.committed_is)
+itself_after g mid end settled valid over = leaves_itself g end settled valid over.1.is_open (over.1.now_is ∙ sym over.1.committed_is)
 
 -- a call that failed was not made
 pub leaves_failed : {S T E : Type 0} (g : store.Ghosts S) (old new : Held S) (r : Result T E) (call : Call) → IsErr r → LeavesDesk g None old new → LeavesDesk g (made_by r call) old new
@@ -155,14 +157,14 @@ module _ {S : Type 0} (g : store.Ghosts S) (a first b new : Held S) (begun : fir
   -- where nothing was changed in the transaction, a crash leaves what it left before
   pub survives_read : ((s : S) → IsTrue (g.view s).is_open → g.recovers s (g.view s).committed) → (IsTrue (state g a).is_open → (state g a).now ≡ (state g a).committed) → (IsDesk (state g first) → HasCleanDisk (state g b) → IsUnchanged (state g first) (state g b))
       → (HasCleanDisk (state g a) → IsDesk (state g a)) → Survives (state g a) (state g new) (λ _. ⊥)
-  survives_read stays settled same desk =
+  survives_read valid settled same desk =
       let begun_now = ap (λ (it : Held S). (state g it).now) begun in
       let whole = survives_then (state g a) (state g b) (state g new) (λ _. ⊥) (λ db. db ≡ (state g b).now.trees) (state g a).may_leave (λ _ _ none. absurd none)
       (λ clean db is.
       let it = (same (desk_same (state g a) (state g first) (sym begun_now) (desk (desk_clean clean))) (mid_clean clean)).0 in
       let was_open = desk_open it.was_open in
       let trees_are = ap (λ (d : Database). d.trees) (it.now_is ∙ begun_now ∙ settled was_open) in
-      subst (state g a).may_leave (sym (is ∙ trees_are)) (stays a.store was_open)) from_desk last in
+      subst (state g a).may_leave (sym (is ∙ trees_are)) (valid a.store was_open)) from_desk last in
       record {
         clean = whole.clean;
         shield = whole.shield;
@@ -232,6 +234,14 @@ module _ {S : Type 0} (g : store.Ghosts S) (first a : Held S) where
           },
           record { changes = same.1.changes ∙ it.0.1.changes; last_rowid = same.1.last_rowid ∙ it.0.1.last_rowid },
         )
+
+-- what was seen of a desk was seen of it in a transaction that is begun behind the asking
+pub records_begun : {S T : Type 0} {t : T} (g : store.Ghosts S) (first a inner : Held S) (cached : List CachedRecord) → AsksOpen {T = T} {E = Failure} g first a (Ok t) → inner ≡ record a { in_transaction = true } → AreRecordsOf g first cached → AreRecordsOf g inner cached
+records_begun g first a inner cached asked begun were clean office stands =
+    let early : HasCleanDisk (state g a) = subst (λ (it : Held _). HasCleanDisk (state g it)) begun clean in
+    let same = (asked.still early).0.0.now_is in
+    let now_is = sym (ap (λ (it : Held _). (state g it).now) begun ∙ same) in
+    were (omega (arith, asked.crash.clean, early)) office (stands_same (state g inner) (state g first) office now_is stands)
 
 -- where nothing is committed, what is committed is no other office
 pub survives_nothing : (old new : State) (P : Trees → Type 0) → Survives old new (λ _. ⊥) → Survives old new P

@@ -3,4 +3,5 @@ pub mod DecidingLemmas
 pub mod DeskReadLemmas
 pub mod JoinLemmas
 pub mod KeepingLemmas
+pub mod CacheLemmas
 pub mod StepLemmas

@@ -1,5 +1,5 @@
 -- A call that is decided, and written.
-use Rattle.std.proofs.Common.{◌≡◌, true, Option, Some, None, Ok, Err, Result, IfOk, IsErr, IsTrue, OnOk, sym, ap, subst, ◌∙◌, arith}
+use Rattle.std.proofs.Common.{◌≡◌, true, Option, Some, None, Ok, Err, Result, IsErr, IsTrue, sym, ap, subst, ◌∙◌, arith}
 use Rattle.sqlite.specs.Effect.{Database, IsDatabase}
 use Rattle.sqlite.specs.Held.{Held, state}
 use Rattle.sqlite.specs.State.{HasCleanDisk, IsUnchanged, KeepsCommit}
@@ -48,6 +48,10 @@ module _ {S : Type 0} (g : store.Ghosts S) (a b c : Held S) (call : Call) (answe
         let before = early clean in
         keeps_then (state g a) (state g b) (state g c) (returned.changes.preserved (before, stands.desk)) (writes.preserved clean)
 
+    -- what was decided is what is decided of the call
+    pub decided_as : HasCleanDisk (state g c) → (office : OfficeLists) → Stands (state g a) office → answer ≡ decided office call
+    decided_as clean office stands = (returned.holds (early clean) office stands).is
+
     -- and no store is opened
     pub step_opened : WasOpen (state g a) (state g c)
     step_opened clean is_open = returned.changes.was_open (early clean) ((writes.preserved clean).was_open is_open)
@@ -84,14 +88,3 @@ module _ {S : Type 0} (g : store.Ghosts S) (a b c : Held S) (call : Call) (answe
         sym (ap (λ (it : Answer Change). it.reply) is.is),
         written.1 ∙ ap (λ (d : Database). d.schema) same.0.now_is,
       )
-
-  -- so they are where what was written and shown is returned
-  pub step_on : {T E : Type 0} (r : Result T E) → DecidedChangesCanBeMade → WritesIfAny g b c r answer.change → HasCleanDisk (state g c) → IsTrue (state g a).in_transaction → IsDatabase (state g a).now → (office : OfficeLists) → Stands (state g a) office
-      → OnOk r ((Stands (state g c) (stepped office call) × IsDatabase (state g c).now) × IsTrue (state g c).in_transaction × ((decided office call).reply ≡ answer.reply) × DeclaresNothing (state g a) (state g c))
-  step_on (Ok x) law writes = step_holds x law writes
-  step_on (Err e) law writes = λ clean inside sound office stands. tt
-
--- what is returned, and what holds where anything is
-pub both_on : {T E W : Type 0} (P Q : T → Type 0) (r : Result T E) → ((t : T) → P t → W → Q t) → IfOk r P → OnOk r W → IfOk r Q
-both_on P Q (Ok t) next p w = next t p w
-both_on P Q (Err e) next p w = tt

@@ -1,11 +1,16 @@
 //! What is decided of a call, from those rows of the tables that its answer reads.
-ghost use Rattle.std.specs.Prelude.{◌≡◌};
+ghost use Rattle.std.specs.Prelude.{◌≡◌, All, IfOk, IsTrue};
+ghost use Rattle.desk_words.specs.Office.{is_office};
 ghost use Rattle.desk_words.specs.Rulings as ruling;
+ghost use Rattle.desk_words.specs.declared.office.OfficeLists.{OfficeLists};
 ghost use Rattle.desk_words.specs.declared.request.DeskRequest.TheVariants as whole;
 ghost use Rattle.desk_words.specs.declared.request.PartyRequest.TheVariants.{Notice};
+ghost use Rattle.desk_store.specs.Cache.{IsRecordOf};
 ghost use Rattle.desk_store.specs.TableReads.{IsDecided, IsDecidedAlways, HoldsOfTables};
 ghost use Rattle.meeting_core.specs.Decisions.{office_call, party_call};
+ghost use Rattle.party_views.specs.Views.{public_of};
 
+use crate::cache::{CachedRecord, cached_record};
 use crate::reading::fault_of_book;
 use desk_words::{
     Answer, Call, Change, DayList, DeskRequest, KeyRows, MeetingId, Moment, NewMeeting,
@@ -17,14 +22,31 @@ use meeting_core::{
 };
 use row_source::no_own_rows;
 use sql_desk_tables::desk;
-use sql_load::{LoadError, read_public_for};
+use sql_load::{LoadError, OwnedRecord, read_public};
 use sql_load_meeting::{OfficeReads, read_closed, read_count, read_first, read_keys, read_rest};
 use sql_load_party::read_own_rows_for;
 use sqlite::{Alter, Transaction};
-use std::alloc::Global;
+use std::alloc::{AllocError, Global};
 
-/// What is decided of a notice, from what the tables hold of the meeting for everyone (section 307).
-/// No rows of the party are read.
+/// What is decided of a notice, from the meeting's public record (section 307). No rows of the party
+/// are read. The error is want of memory.
+pub(crate) fn answer_notice(
+    alloc: Global,
+    now: Moment,
+    party: Party,
+    meeting: MeetingId,
+    public: &OwnedRecord,
+) -> Result<Answer<Change>, AllocError>
+    ensures { IfOk result (λ answer. (office : OfficeLists)
+        → public.now ≡ public_of office meeting → IsTrue (is_office office)
+        → IsDecided (party_call party meeting now Notice) office answer) }
+{
+    let rows = no_own_rows(alloc, party);
+    let notice = PartyRequest::Notice;
+    decide_from_rows(alloc, meeting, &public.record(), rows, now, &notice)
+}
+
+/// What is decided of a notice, from what the tables hold of the meeting for everyone.
 fn decide_notice<S: Alter>(
     tx: &mut Transaction<'_, S>,
     alloc: Global,
@@ -36,16 +58,35 @@ fn decide_notice<S: Alter>(
     ensures holds { HoldsOfTables S.Store tx.old.conn.now tx.new.conn.now result
         (IsDecided (party_call party meeting now Notice)) }
 {
-    let notice = PartyRequest::Notice;
-    let public = read_public_for(tx, alloc, meeting, &notice)?;
-    let rows = no_own_rows(alloc, party);
-    let answer = decide_from_rows(alloc, meeting, &public.record(), rows, now, &notice)?;
+    let public = read_public(tx, alloc, meeting)?;
+    let answer = answer_notice(alloc, now, party, meeting, &public)?;
+    Ok(answer)
+}
+
+/// What is decided of what a party asks in a meeting, from a public record of the meeting and from
+/// what the tables hold of the party in it.
+fn decide_by_rows<S: Alter>(
+    tx: &mut Transaction<'_, S>,
+    alloc: Global,
+    now: Moment,
+    party: Party,
+    meeting: MeetingId,
+    asked: &PartyRequest,
+    public: &OwnedRecord,
+) -> Result<Answer<Change>, LoadError>
+    ensures same_reference { tx.new.conn.ghost_name ≡ tx.old.conn.ghost_name }
+    ensures holds { HoldsOfTables S.Store tx.old.conn.now tx.new.conn.now result
+        (λ office answer. public.now ≡ public_of office meeting
+        → IsDecided (party_call party meeting now asked.now) office answer) }
+{
+    let rows = read_own_rows_for(tx, alloc, meeting, party, asked)?;
+    let answer = decide_from_rows(alloc, meeting, &public.record(), rows, now, asked)?;
     Ok(answer)
 }
 
 /// What is decided of what a party asks in a meeting, from what the tables hold of the meeting for
 /// everyone and of the party in it.
-fn decide_by_rows<S: Alter>(
+fn decide_by_tables<S: Alter>(
     tx: &mut Transaction<'_, S>,
     alloc: Global,
     now: Moment,
@@ -57,14 +98,12 @@ fn decide_by_rows<S: Alter>(
     ensures holds { HoldsOfTables S.Store tx.old.conn.now tx.new.conn.now result
         (IsDecided (party_call party meeting now asked.now)) }
 {
-    let public = read_public_for(tx, alloc, meeting, asked)?;
-    let rows = read_own_rows_for(tx, alloc, meeting, party, asked)?;
-    let answer = decide_from_rows(alloc, meeting, &public.record(), rows, now, asked)?;
-    Ok(answer)
+    let public = read_public(tx, alloc, meeting)?;
+    decide_by_rows(tx, alloc, now, party, meeting, asked, &public)
 }
 
-/// What is decided of what a party asks in a meeting.
-fn decide_for_party<S: Alter>(
+/// What is decided of what a party asks in a meeting whose public record is not cached.
+fn decide_uncached<S: Alter>(
     tx: &mut Transaction<'_, S>,
     alloc: Global,
     now: Moment,
@@ -78,7 +117,29 @@ fn decide_for_party<S: Alter>(
 {
     match asked {
         PartyRequest::Notice => decide_notice(tx, alloc, now, party, meeting),
-        _ => decide_by_rows(tx, alloc, now, party, meeting, asked),
+        _ => decide_by_tables(tx, alloc, now, party, meeting, asked),
+    }
+}
+
+/// What is decided of what a party asks in a meeting. Its public record is read where it is not among
+/// those that are cached.
+fn decide_for_party<S: Alter>(
+    tx: &mut Transaction<'_, S>,
+    alloc: Global,
+    now: Moment,
+    party: Party,
+    meeting: MeetingId,
+    asked: &PartyRequest,
+    cached: &[CachedRecord],
+) -> Result<Answer<Change>, LoadError>
+    ensures same_reference { tx.new.conn.ghost_name ≡ tx.old.conn.ghost_name }
+    ensures holds { HoldsOfTables S.Store tx.old.conn.now tx.new.conn.now result
+        (λ office answer. All (IsRecordOf office) cached.now
+        → IsDecided (party_call party meeting now asked.now) office answer) }
+{
+    match cached_record(cached, meeting) {
+        Some(public) => decide_by_rows(tx, alloc, now, party, meeting, asked, public),
+        None => decide_uncached(tx, alloc, now, party, meeting, asked),
     }
 }
 
@@ -185,17 +246,19 @@ fn refused<S: Alter>(
 
 /// A transaction over the tables, from whose rows calls are decided.
 #[derive(Drop)]
-struct InTables<'t, 'c, S: Alter> {
+struct InTables<'t, 'c, 's, S: Alter> {
     alloc: Global,
     tx: &'t mut Transaction<'c, S>,
+    cached: &'s [CachedRecord],
 }
 
-impl<S: Alter> Decides for InTables<'_, '_, S> {
+impl<S: Alter> Decides for InTables<'_, '_, '_, S> {
     type Error = LoadError;
 
     ghost decides = { λ a b result call. (b.tx.ghost_name ≡ a.tx.ghost_name)
         × (b.tx.now.conn.ghost_name ≡ a.tx.now.conn.ghost_name)
-        × HoldsOfTables S.Store a.tx.now.conn.now b.tx.now.conn.now result (IsDecided call) };
+        × HoldsOfTables S.Store a.tx.now.conn.now b.tx.now.conn.now result
+        (λ office answer. All (IsRecordOf office) a.cached.now → IsDecided call office answer) };
 
     fn for_desk(&mut self, _now: Moment, asked: &DeskRequest) -> Result<Answer<Change>, LoadError> {
         decide_for_desk(self.tx, self.alloc, asked)
@@ -217,7 +280,7 @@ impl<S: Alter> Decides for InTables<'_, '_, S> {
         now: Moment,
         asked: &PartyRequest,
     ) -> Result<Answer<Change>, LoadError> {
-        decide_for_party(self.tx, self.alloc, now, party, meeting, asked)
+        decide_for_party(self.tx, self.alloc, now, party, meeting, asked, self.cached)
     }
 
     fn refuse(&mut self, refusal: Refusal) -> Result<Answer<Change>, LoadError> {
@@ -225,15 +288,17 @@ impl<S: Alter> Decides for InTables<'_, '_, S> {
     }
 }
 
-/// What is decided of a call, from those rows of the tables alone that its answer reads. Where the
-/// wrong side asks, it is refused.
+/// What is decided of a call, from those rows of the tables alone that its answer reads, and from
+/// public records that are cached. Where the wrong side asks, it is refused.
 pub(crate) fn decide<S: Alter>(
     tx: &mut Transaction<'_, S>,
     alloc: Global,
     call: &Call,
+    cached: &[CachedRecord],
 ) -> Result<Answer<Change>, LoadError>
     ensures same_reference { tx.new.conn.ghost_name ≡ tx.old.conn.ghost_name }
-    ensures holds { HoldsOfTables S.Store tx.old.conn.now tx.new.conn.now result (IsDecided call.now) }
+    ensures holds { HoldsOfTables S.Store tx.old.conn.now tx.new.conn.now result
+        (λ office answer. All (IsRecordOf office) cached.now → IsDecided call.now office answer) }
 {
-    decide_by(&mut InTables { alloc, tx }, call)
+    decide_by(&mut InTables { alloc, tx, cached }, call)
 }

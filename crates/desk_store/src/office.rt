@@ -1,5 +1,5 @@
-//! The desk over its tables is an office.
-use crate::desk::Desk;
+//! The desk that serves is an office.
+use crate::caching::CachingDesk;
 use any_office::Office;
 use desk_words::{Call, Caller, Failure, Reply, SecretKey};
 use sqlite::Alter;
@@ -7,7 +7,7 @@ use std::alloc::AllocError;
 
 // It is reliable while the disk returns what was written, and open while its store is. A crash leaves
 // tables, which are opened as the office that they are whole.
-impl<S: Alter> Office for Desk<S> {
+impl<S: Alter> Office for CachingDesk<S> {
     ghost use Rattle.std.specs.Prelude.{IsTrue};
     ghost use Rattle.sql_model.specs.Standing.{Stands};
     ghost use Rattle.sql_open.specs.WholeDesk.{IsWholeDesk};
@@ -32,7 +32,7 @@ impl<S: Alter> Office for Desk<S> {
     ghost may_fail = { λ _. Unit {0} };
 
     fn caller_of(&mut self, key: &SecretKey) -> Result<Option<Caller>, Failure> {
-        Desk::caller_of(self, key)
+        CachingDesk::caller_of(self, key)
     }
 
     fn perform<T: Drop, F: FnOnce(&Reply) -> Result<T, AllocError>>(
@@ -40,6 +40,6 @@ impl<S: Alter> Office for Desk<S> {
         call: Call,
         show: F,
     ) -> Result<T, Failure> {
-        Desk::perform(self, call, show)
+        CachingDesk::perform(self, call, show)
     }
 }

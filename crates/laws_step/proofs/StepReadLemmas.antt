@@ -1,5 +1,5 @@
 -- What is read of the rows gives what is read of the own things.
-use Rattle.std.proofs.Common.{◌≡◌, ℕ, Bool, true, false, cond, List, [], ◌∷◌, filter, refl, ap, sym, ◌∙◌, true≢false}
+use Rattle.std.proofs.Common.{◌≡◌, ℕ, Bool, true, false, cond, List, [], filter, refl, ap, sym, ◌∙◌, true≢false}
 use Rattle.std.specs.Prelude.{Option, Some, None}
 use Rattle.std.specs.Option.{option_map_or}
 use Rattle.std.proofs.lemmas.Bool.{eq-eqb}
@@ -28,20 +28,11 @@ use Rattle.party_views.specs.declared.own_rows.AuthorityRows.{AuthorityRows}
 use Rattle.party_views.specs.declared.own_rows.MemberRows.{MemberRows}
 use Rattle.party_views.specs.declared.own_rows.OwnRows.{OwnRows}
 use Rattle.party_views.proofs.OwnLemmas.{own-read}
-use Rattle.caller_view.proofs.PartyReadLemmas.{ruling-own_read}
+use Rattle.caller_view.proofs.PartyReadLemmas.{filter-again, ruling-own_read}
 use Rattle.laws_step.specs.WrongAnswers.{a_member, own_vote}
 use Rattle.laws_step.specs.WrongOwnThings.{quiet_meeting}
 use Rattle.laws_step.specs.WrongReads.{ReadsTooLittle, reads_no_row}
 use Rattle.laws_step.specs.PartyReads.{ReadsEnough, RowsGiveOwnThings, RowsReadAreEnough}
-
--- what passes a test passes it again
-filter-again : {X : Type 0} (test : X → Bool) (xs : List X) → filter test (filter test xs) ≡ filter test xs
-filter-again test [] = refl
-filter-again test (x ∷ xs) =
-    (elim (test x) as (λ b. test x ≡ b → filter test (cond b (x ∷ filter test xs) (filter test xs)) ≡ cond b (x ∷ filter test xs) (filter test xs)) [
-      | true ↦ λ passes. ap (λ b. cond b (x ∷ filter test (filter test xs)) (filter test (filter test xs))) passes ∙ ap (λ l. x ∷ l) (filter-again test xs)
-      | false ↦ λ fails. filter-again test xs
-    ]) refl
 
 appointments-again : (new : NewCast) (given : List Appointment) (capacity : Capacity)
     → appointments_read new (appointments_read new given capacity) capacity ≡ appointments_read new given capacity

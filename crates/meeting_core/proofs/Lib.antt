@@ -9,3 +9,4 @@ pub mod ReadPreserved
 pub mod RulingLemmas
 pub mod Rulings
 pub mod StepLaws
+pub mod UnseenEntries

@@ -14,7 +14,6 @@ use Rattle.desk_words.specs.declared.request.OfficeRequest.{OfficeRequest}
 use Rattle.desk_words.specs.declared.request.PartyRequest.{PartyRequest}
 use Rattle.desk_words.specs.declared.request.Request.TheVariants as asked
 use Rattle.party_views.specs.Public.{PublicRecord}
-use Rattle.party_views.specs.PublicRead.{public_read}
 use Rattle.party_views.specs.RowsRead.{own_rows_read}
 use Rattle.party_views.specs.PartyRows.{own_rows_in}
 use Rattle.party_views.specs.Views.{meeting_at, public_of}
@@ -40,11 +39,11 @@ party_call party meeting now what = record {
   request = asked.Party meeting what;
 }
 
--- these are what the answer to a request reads of the meeting's public record, and those of the
--- party's rows in it that it reads
+-- these are the meeting's public record, and those of the party's rows in it that the answer to a
+-- request reads
 pub record AreRead (office : OfficeLists) (party : Party) (meeting : MeetingName)
     (what : PartyRequest) (seen : PublicRecord) (rows : OwnRows) : Type 0 where
-  pub public : seen ≡ public_read what (public_of office meeting)
+  pub public : seen ≡ public_of office meeting
   pub own : rows ≡ own_rows_read what (own_rows_in (meeting_at office meeting) party)
 
 -- a call of the office, which asks something in a meeting

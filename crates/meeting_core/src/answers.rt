@@ -69,9 +69,9 @@ pub(crate) fn answer_from(
     answer(alloc, public, own, now, asked)
 }
 
-/// What is decided of what a party asks in a meeting, from what of the public record and of its rows
-/// the answer reads: it is so in every office of which these are read, and what it changes leaves
-/// the lists of an office. The error is want of memory.
+/// What is decided of what a party asks in a meeting, from the public record and what of its rows the
+/// answer reads: it is so in every office of which these are read, and what it changes leaves the
+/// lists of an office. The error is want of memory.
 pub fn decide_from_rows(
     alloc: Global,
     meeting: MeetingId,

@@ -14,7 +14,6 @@ pub use flat::read_flat;
 pub use office::read_office;
 pub use public::{
     OwnedRecord, counted_of, meeting_for, meeting_of, polls_of, polls_on, read_closed, read_public,
-    read_public_for,
 };
 pub use sql_assemble::LoadError;
 pub use table::listing;

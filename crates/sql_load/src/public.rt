@@ -1,8 +1,8 @@
 //! What is public of a meeting, read from the tables by its name.
-ghost use Rattle.std.specs.Prelude.{◌≡◌, [], Some, length, option_map};
+ghost use Rattle.std.specs.Prelude.{◌≡◌, Some, is_some, length, option_map};
 ghost use Rattle.sql_model.specs.OfficeRecords.{whole_meeting};
 ghost use Rattle.desk_words.specs.declared.office.MeetingLists.{MeetingLists};
-ghost use Rattle.party_views.specs.PublicRead.{counted, counted_up_to, for_poll_on, meeting_alone, public_read, vote_read, with_unread, without_texts};
+ghost use Rattle.party_views.specs.PublicRead.{counted, counted_up_to, with_unread};
 ghost use Rattle.party_views.specs.RowsRead.{polls_on};
 ghost use Rattle.party_views.specs.Views.{meeting_at, polls_in, public_of};
 ghost use Rattle.sql_load.specs.MeetingRecords.{AreOnItsResolutions, MayHave, last_number, later_in};
@@ -11,10 +11,7 @@ ghost use Rattle.sql_load.specs.TableLookUps.{HoldsOfStoredOffice};
 use crate::query_records::{first, items, records_found};
 use crate::stand_ins::{stand_ins, stand_ins_by_polls, unread};
 use crate::table::listing;
-use desk_words::{
-    Capacity, DayList, Listing, Meeting, MeetingId, NewCast, PartyRequest, Poll, Resolution,
-    Resolutions, Session,
-};
+use desk_words::{Listing, Meeting, MeetingId, Poll, Resolution, Resolutions, Session};
 use office_days::Closed;
 use party_views::PublicRecord;
 use sql_assemble::{LoadError, day_list, poll_list, resolution_list, session_list};
@@ -48,6 +45,13 @@ impl OwnedRecord {
         ensures { result ≡ self.now }
     {
         PublicRecord::new(&self.closed, self.meeting.as_ref(), self.polls.as_slice())
+    }
+
+    /// Whether it is of a meeting that there is.
+    pub fn has_meeting(&self) -> bool
+        ensures { result ≡ is_some self.now.meeting }
+    {
+        self.meeting.is_some()
     }
 }
 
@@ -295,155 +299,5 @@ pub fn meeting_for<S: Alter>(
     match stand_ins_by_polls(on, polls) {
         Some(count) => unread_of(tx, alloc, meeting, count),
         None => counted_up_to(tx, alloc, meeting, on),
-    }
-}
-
-/// The record of a meeting alone, without closed days and polls.
-fn alone(alloc: Global, meeting: Option<Meeting>) -> OwnedRecord
-    ensures { result ≡ record { closed = []; meeting = meeting; polls = [] } }
-{
-    OwnedRecord {
-        closed: Closed::from_list(DayList::empty(alloc)),
-        meeting,
-        polls: Listing::new(alloc),
-    }
-}
-
-/// The public record of a meeting, without the closed days and the polls.
-fn read_alone<S: Alter>(
-    tx: &mut Transaction<'_, S>,
-    alloc: Global,
-    meeting: MeetingId,
-) -> Result<OwnedRecord, LoadError>
-    ensures same_reference { tx.new.conn.ghost_name ≡ tx.old.conn.ghost_name }
-    ensures holds { HoldsOfStoredOffice S.Store tx.old.conn.now tx.new.conn.now result
-        (λ office found. found ≡ meeting_alone (public_of office meeting)) }
-{
-    let found = unread_of(tx, alloc, meeting, 1)?;
-    Ok(alone(alloc, found))
-}
-
-/// The public record of a meeting without the texts of its resolutions, of which one may be asked for.
-fn read_without_texts<S: Alter>(
-    tx: &mut Transaction<'_, S>,
-    alloc: Global,
-    meeting: MeetingId,
-    on: Option<u64>,
-) -> Result<OwnedRecord, LoadError>
-    ensures same_reference { tx.new.conn.ghost_name ≡ tx.old.conn.ghost_name }
-    ensures holds { HoldsOfStoredOffice S.Store tx.old.conn.now tx.new.conn.now result
-        (λ office found. found ≡ without_texts on (public_of office meeting)) }
-{
-    let closed = read_closed(tx, alloc)?;
-    let polls = polls_of(tx, alloc, meeting)?;
-    let found = meeting_for(tx, alloc, meeting, on, polls.as_slice())?;
-    Ok(OwnedRecord {
-        closed,
-        meeting: found,
-        polls,
-    })
-}
-
-/// What of it votes on a resolution read, where the closed days are not asked for.
-fn read_without_days<S: Alter>(
-    tx: &mut Transaction<'_, S>,
-    alloc: Global,
-    meeting: MeetingId,
-    resolution: u64,
-) -> Result<OwnedRecord, LoadError>
-    ensures same_reference { tx.new.conn.ghost_name ≡ tx.old.conn.ghost_name }
-    ensures holds { HoldsOfStoredOffice S.Store tx.old.conn.now tx.new.conn.now result
-        (λ office found. found
-        ≡ record (for_poll_on resolution (public_of office meeting)) { closed = [] }) }
-{
-    let polls = polls_on(tx, alloc, meeting, resolution)?;
-    let found = meeting_for(tx, alloc, meeting, Some(resolution), polls.as_slice())?;
-    Ok(OwnedRecord {
-        closed: Closed::from_list(DayList::empty(alloc)),
-        meeting: found,
-        polls,
-    })
-}
-
-/// What of it votes on a resolution read: the poll on it alone.
-fn read_for_poll<S: Alter>(
-    tx: &mut Transaction<'_, S>,
-    alloc: Global,
-    meeting: MeetingId,
-    resolution: u64,
-) -> Result<OwnedRecord, LoadError>
-    ensures same_reference { tx.new.conn.ghost_name ≡ tx.old.conn.ghost_name }
-    ensures holds { HoldsOfStoredOffice S.Store tx.old.conn.now tx.new.conn.now result
-        (λ office found. found ≡ for_poll_on resolution (public_of office meeting)) }
-{
-    let closed = read_closed(tx, alloc)?;
-    let read = read_without_days(tx, alloc, meeting, resolution)?;
-    Ok(OwnedRecord { closed, ..read })
-}
-
-/// The public record of a meeting without the polls, and with as many resolutions as it has in place
-/// of them.
-fn read_without_polls<S: Alter>(
-    tx: &mut Transaction<'_, S>,
-    alloc: Global,
-    meeting: MeetingId,
-) -> Result<OwnedRecord, LoadError>
-    ensures same_reference { tx.new.conn.ghost_name ≡ tx.old.conn.ghost_name }
-    ensures holds { HoldsOfStoredOffice S.Store tx.old.conn.now tx.new.conn.now result
-        (λ office found. found ≡ record (public_of office meeting) {
-          meeting = option_map counted (public_of office meeting).meeting;
-          polls = [];
-        }) }
-{
-    let closed = read_closed(tx, alloc)?;
-    let found = counted_of(tx, alloc, meeting)?;
-    Ok(OwnedRecord {
-        closed,
-        meeting: found,
-        polls: Listing::new(alloc),
-    })
-}
-
-/// What of it a vote reads.
-fn read_for_vote<S: Alter>(
-    tx: &mut Transaction<'_, S>,
-    alloc: Global,
-    meeting: MeetingId,
-    new: &NewCast,
-) -> Result<OwnedRecord, LoadError>
-    ensures same_reference { tx.new.conn.ghost_name ≡ tx.old.conn.ghost_name }
-    ensures holds { HoldsOfStoredOffice S.Store tx.old.conn.now tx.new.conn.now result
-        (λ office found. found ≡ vote_read new.now new.now.capacity (public_of office meeting)) }
-{
-    match new.capacity {
-        Capacity::Proxy => read_for_poll(tx, alloc, meeting, new.resolution),
-        Capacity::Member | Capacity::Rep => read_without_days(tx, alloc, meeting, new.resolution),
-    }
-}
-
-/// What of a meeting's public record the answer to a party's request reads. Texts of resolutions are
-/// read for the notice alone (section 307), and of the polls a vote reads its own.
-pub fn read_public_for<S: Alter>(
-    tx: &mut Transaction<'_, S>,
-    alloc: Global,
-    meeting: MeetingId,
-    asked: &PartyRequest,
-) -> Result<OwnedRecord, LoadError>
-    ensures same_reference { tx.new.conn.ghost_name ≡ tx.old.conn.ghost_name }
-    ensures holds { HoldsOfStoredOffice S.Store tx.old.conn.now tx.new.conn.now result
-        (λ office found. found ≡ public_read asked.now (public_of office meeting)) }
-{
-    match asked {
-        PartyRequest::Notice => read_public(tx, alloc, meeting),
-        PartyRequest::Mine => read_without_texts(tx, alloc, meeting, None),
-        PartyRequest::Appoint(_) => read_without_polls(tx, alloc, meeting),
-        PartyRequest::End(_) | PartyRequest::Authorise(_) | PartyRequest::Attend => {
-            read_alone(tx, alloc, meeting)
-        }
-        PartyRequest::Demand(resolution) => {
-            read_without_texts(tx, alloc, meeting, Some(*resolution))
-        }
-        PartyRequest::Cast(new) => read_for_vote(tx, alloc, meeting, new),
-        PartyRequest::Instructed(resolution) => read_for_poll(tx, alloc, meeting, *resolution),
     }
 }

@@ -12,7 +12,6 @@ use Rattle.desk_words.specs.declared.change.MeetingChange.TheVariants.{Enter}
 use Rattle.desk_words.specs.declared.office.OfficeLists.{OfficeLists}
 use Rattle.desk_words.specs.declared.request.Request.TheVariants as asked
 use Rattle.caller_view.specs.PartyRulings.{party_ruling}
-use Rattle.caller_view.proofs.PublicReadLemmas.{no_more_of_the_public}
 use Rattle.party_views.specs.OwnViews.{own_from}
 use Rattle.party_views.specs.Public.{PublicRecord}
 use Rattle.party_views.specs.PartyRows.{own_rows_in}
@@ -40,8 +39,7 @@ is_decided c office party read =
     c.entering.ensures
     ∙ ap (map_change entered)
     (c.in_ok-answer.ensures all read.own
-    ∙ ap (λ (seen : PublicRecord). ruled_answer (party_ruling seen (own_from all seen now) now what)) read.public
-    ∙ ap ruled_answer (no_more_of_the_public (public_of office meeting) all now what))
+    ∙ ap (λ (seen : PublicRecord). ruled_answer (party_ruling seen (own_from all seen now) now what)) read.public)
     ∙ sym (settled_within entered ruled)
 
 pub returns-clause-decided : goal.returns-clause-decided

@@ -1,7 +1,7 @@
 use Rattle.std.proofs.Common.{rules}
 use Rattle.meeting_core.specs.Decisions.{desk_call}
 use Rattle.desk_store.specs.TableReads.{IsDecided, IsDecidedAlways}
-use Rattle.desk_store.proofs.DecidingLemmas.{returned_also}
+use Rattle.desk_store.proofs.DecidingLemmas.{returned_also, holds_there}
 use Rattle.desk_store.proofs.deciding.InTablesDecides.for_desk.Goals as goal
 
 pub returns : goal.returns
@@ -9,5 +9,5 @@ returns g c =
     let what = c.args.asked.now in (
       search rules,
       search rules,
-      returned_also g.S.Store _ _ c.decide_for_desk.result (IsDecidedAlways what) (IsDecided (desk_call c.args._now what)) c.decide_for_desk.ensures.holds (λ office preserved answer is. is c.args._now),
+      holds_there g.S.Store _ _ c.decide_for_desk.result _ (IsDecided (desk_call c.args._now what)) (returned_also g.S.Store _ _ c.decide_for_desk.result (IsDecidedAlways what) (IsDecided (desk_call c.args._now what)) c.decide_for_desk.ensures.holds (λ office preserved answer is. is c.args._now)),
     )

@@ -1,0 +1,89 @@
+-- The cache of a desk: callers by their keys, and public records of meetings.
+use Rattle.std.specs.Prelude.{◌≡◌, ℕ, List, Option, Some, None, All, IfSome, IsTrue, true, false}
+use Rattle.std.specs.BTreeMap.{BTreeMap, get}
+use Rattle.sqlite.specs.Held.{Held, state}
+use Rattle.sqlite.specs.State.{HasCleanDisk}
+use Rattle.sqlite_trees.specs.declared.store.Store as store
+use Rattle.vocabulary.specs.Names.{name_cmp}
+use Rattle.desk_words.specs.ViewTypes.{MeetingName}
+use Rattle.desk_words.specs.declared.caller.Caller.{Caller}
+use Rattle.desk_words.specs.declared.caller.Caller.TheVariants as caller
+use Rattle.desk_words.specs.declared.request.Request.{Request}
+use Rattle.desk_words.specs.declared.request.Request.TheVariants as asked
+use Rattle.desk_words.specs.declared.change.Change.{Change}
+use Rattle.desk_words.specs.declared.change.Change.TheVariants.{InMeeting, SetKeys}
+use Rattle.desk_words.specs.declared.change.MeetingChange.TheVariants.{Enter}
+use Rattle.desk_words.specs.declared.office.OfficeLists.{OfficeLists}
+use Rattle.party_views.specs.Views.{public_of}
+use Rattle.meeting_core.specs.KeyHolders.{caller_with}
+use Rattle.sql_model.specs.Standing.{Stands}
+use Rattle.sql_open.specs.WholeDesk.{LeavesWhole}
+use Rattle.sql_schema.specs.Tables.{desk_schema}
+use Rattle.desk_store.specs.declared.cache.Cache.{Cache}
+use Rattle.desk_store.specs.declared.cache.CachedRecord.{CachedRecord}
+use Rattle.desk_store.specs.declared.cache.StillValid.{StillValid}
+
+-- the record is the public record of its meeting
+abbrev pub IsRecordOf : OfficeLists → CachedRecord → Type 0
+IsRecordOf office cached = cached.public ≡ public_of office cached.meeting
+
+-- so are these, of the office for which the tables stand
+abbrev pub AreRecordsOf : {S : Type 0} → store.Ghosts S → Held S → List CachedRecord → Type 0
+AreRecordsOf g desk cached =
+    HasCleanDisk (state g desk) → (office : OfficeLists) → Stands (state g desk) office
+    → All (IsRecordOf office) cached
+
+-- these callers have these keys
+abbrev pub AreCallersOf : OfficeLists → BTreeMap (List ℕ) Caller → Type 0
+AreCallersOf office callers =
+    (key : List ℕ)
+    → IfSome (get name_cmp callers key) (λ caller. caller_with office.keys key ≡ Some caller)
+
+-- what the cache has is so in an office
+pub record IsCacheOf (office : OfficeLists) (cache : Cache) : Type 0 where
+  pub callers : AreCallersOf office cache.callers
+  pub records : All (IsRecordOf office) cache.records.items
+
+-- what was asked last was answered: the store is open, and a crash leaves the office for which the
+-- tables stand, whole, and nothing else
+pub record WasAnswered {S : Type 0} (g : store.Ghosts S) (desk : Held S) : Type 0 where
+  pub is_open : HasCleanDisk (state g desk) → IsTrue (state g desk).is_open
+  pub whole : HasCleanDisk (state g desk) → (office : OfficeLists)
+      → Stands (state g desk) office → LeavesWhole (state g desk) office
+
+-- the tables of a store that is open stand for an office
+abbrev pub StandsIfOpen : {S : Type 0} → store.Ghosts S → Held S → Type 0
+StandsIfOpen g desk =
+    HasCleanDisk (state g desk) → IsTrue (state g desk).is_open
+    → (office : OfficeLists) × Stands (state g desk) office
+
+-- tables that are declared as those of a new desk stand for an office
+abbrev pub StandsIfMade : {S : Type 0} → store.Ghosts S → Held S → Type 0
+StandsIfMade g desk =
+    HasCleanDisk (state g desk) → (state g desk).now.schema ≡ desk_schema
+    → (office : OfficeLists) × Stands (state g desk) office
+
+-- what the cache has is so in the office for which the tables stand, and what was asked last was
+-- answered
+pub record IsValid {S : Type 0} (g : store.Ghosts S) (desk : Held S) (cache : Cache) : Type 0 where
+  pub answered : WasAnswered g desk
+  pub stands : StandsIfOpen g desk
+  pub agrees : HasCleanDisk (state g desk) → (office : OfficeLists) → Stands (state g desk) office
+      → IsCacheOf office cache
+
+-- so it is where there is a cache
+abbrev pub IsValidIfAny : {S : Type 0} → store.Ghosts S → Held S → Option Cache → Type 0
+IsValidIfAny g desk None = Unit {0}
+IsValidIfAny g desk (Some cache) = IsValid g desk cache
+
+-- what of it is valid after a change: what is entered into a meeting's lists is not public
+abbrev pub valid_after : Option Change → StillValid
+valid_after None = record { records = true; callers = true }
+valid_after (Some (InMeeting id (Enter entry))) = record { records = true; callers = true }
+valid_after (Some (SetKeys rows)) = record { records = true; callers = false }
+valid_after (Some other) = record { records = false; callers = true }
+
+-- the meeting in which a party asks something
+abbrev pub asked_in : Caller → Request → Option MeetingName
+asked_in (caller.Party party) (asked.Party meeting what) = Some meeting
+asked_in who request = None
