@@ -26,12 +26,14 @@ use Rattle.sql_model.specs.Standing.{Stands}
 use Rattle.sql_schema.specs.Statements.{HasTables, layout_two}
 use Rattle.sql_schema.specs.Tables.{desk_schema}
 use Rattle.sql_open.specs.Known.{AreOpened, IsMadeAs}
+use Rattle.sql_open.specs.Crashes.{LeavesItself}
 use Rattle.sql_open.specs.WholeDesk.{LeavesWhole}
 use Rattle.sql_open.specs.declared.version.KnownVersion.{KnownVersion}
 use Rattle.sql_open.specs.declared.version.KnownVersion.TheVariants.{One, Two}
-use Rattle.desk_store.specs.Joins.{AreAfter, IsDeskIfOpen, LeavesDesk}
+use Rattle.desk_store.specs.Joins.{AreAfter, IsAsItWas, IsDeskIfOpen, LeavesDesk}
 use Rattle.desk_store.specs.Cache.{AreCallersOf, IsCacheOf, IsValidIfAny, IsValid, IsRecordOf, StandsIfOpen, valid_after}
 use Rattle.desk_store.specs.Caching.{Finds, LeavesNext, Performs}
+use Rattle.desk_store.specs.TableReads.{HoldsOfDesk}
 use Rattle.desk_words.specs.declared.caller.Caller.{Caller}
 use Rattle.meeting_core.specs.KeyHolders.{caller_with}
 use Rattle.vocabulary.specs.Names.{name_cmp}
@@ -53,7 +55,7 @@ module _ {S : Type 0} (g : store.Ghosts S) (made : Option Call) (a b : Held S) (
       let before = stood (leaves.was_reliable clean) (leaves.was_open clean is_open) in
       (office_after before.0 made, leaves.stands clean is_open before.0 before.1)
 
-  module _ (is_open : HasCleanDisk (state g b) → IsTrue (state g b).is_open) where
+  module _ (ended : b.in_transaction ≡ false) (is_open : HasCleanDisk (state g b) → IsTrue (state g b).is_open) (settled : HasCleanDisk (state g b) → LeavesItself (state g b)) where
     -- and for no other
     behind : (P : OfficeLists → Type 0) → HasCleanDisk (state g b) → ((before : OfficeLists) → Stands (state g a) before → P (office_after before made)) → (office : OfficeLists) → Stands (state g b) office → P office
     behind P clean so office stands =
@@ -64,19 +66,19 @@ module _ {S : Type 0} (g : store.Ghosts S) (made : Option Call) (a b : Held S) (
     pub cache_after : (cache : _) → (HasCleanDisk (state g b) → (before : OfficeLists) → Stands (state g a) before → LeavesWhole (state g b) (office_after before made))
         → (HasCleanDisk (state g b) → (before : OfficeLists) → Stands (state g a) before → IsCacheOf (office_after before made) cache) → IsValid g b cache
     cache_after cache whole keeps = record {
-      answered = record { is_open = is_open; whole = λ clean. behind (LeavesWhole (state g b)) clean (whole clean) };
+      answered = record { ended = ended; is_open = is_open; settled = settled; whole = λ clean. behind (LeavesWhole (state g b)) clean (whole clean) };
       stands = stands_after;
       agrees = λ clean. behind (λ office. IsCacheOf office cache) clean (keeps clean);
     }
 
 -- an empty cache of tables that are known to stand for an office
-pub new_cache_valid : {S : Type 0} (g : store.Ghosts S) (made : Option Call) (a b : Held S) (is_known : Bool) (o : Option Cache) → (IsTrue is_known → StandsIfOpen g a) → LeavesDesk g made a b → (HasCleanDisk (state g b) → IsTrue (state g b).is_open)
+pub new_cache_valid : {S : Type 0} (g : store.Ghosts S) (made : Option Call) (a b : Held S) (is_known : Bool) (o : Option Cache) → (IsTrue is_known → StandsIfOpen g a) → LeavesDesk g made a b → b.in_transaction ≡ false → (HasCleanDisk (state g b) → IsTrue (state g b).is_open) → (HasCleanDisk (state g b) → LeavesItself (state g b))
     → (HasCleanDisk (state g b) → (before : OfficeLists) → Stands (state g a) before → LeavesWhole (state g b) (office_after before made)) → IfSome o (λ cache. IsTrue is_known × ((office : OfficeLists) → IsCacheOf office cache))
     → (IsTrue is_known → StandsIfOpen g b) × IsValidIfAny g b o
-new_cache_valid g made a b is_known None stood leaves is_open whole begun = (λ known. stands_after g made a b (stood known) leaves, tt)
-new_cache_valid g made a b is_known (Some cache) stood leaves is_open whole begun = (
+new_cache_valid g made a b is_known None stood leaves ended is_open settled whole begun = (λ known. stands_after g made a b (stood known) leaves, tt)
+new_cache_valid g made a b is_known (Some cache) stood leaves ended is_open settled whole begun = (
   λ known. stands_after g made a b (stood known) leaves,
-  cache_after g made a b (stood begun.0) leaves is_open cache whole (λ clean before stands. begun.1 (office_after before made)),
+  cache_after g made a b (stood begun.0) leaves ended is_open settled cache whole (λ clean before stands. begun.1 (office_after before made)),
 )
 
 -- tables that were opened, and are declared as those of a new desk, stand for an office
@@ -134,28 +136,53 @@ records_still_valid office change was now false is same none records = none refl
 
 module _ {S : Type 0} (g : store.Ghosts S) where
   -- a call that failed was not made
-  pub not_performed : {T : Type 0} (a b : Held S) (call : Call) (r : Result T Failure) (IsShown : Reply → T → Type 0) → IsErr r → LeavesDesk g None a b → LeavesNext g a b (AreAfter (state g a) call) → Performs g a b call r IsShown
-  not_performed a b call (Ok x) IsShown failed leaves crash = absurd cc
-  not_performed a b call (Err e) IsShown failed leaves crash = record {
+  pub not_performed : {T : Type 0} (a b : Held S) (call : Call) (r : Result T Failure) (IsShown : Reply → T → Type 0) → IsErr r → LeavesDesk g None a b → b.in_transaction ≡ false → LeavesNext g a b (AreAfter (state g a) call) → Performs g a b call r IsShown
+  not_performed a b call (Ok x) IsShown failed leaves ended crash = absurd cc
+  not_performed a b call (Err e) IsShown failed leaves ended crash = record {
     done = λ clean office stands. tt;
+    declares = λ clean office stands. tt;
     leaves = leaves;
+    ended = ended;
     stays_open = λ clean. tt;
+    settled = λ clean. tt;
     whole = λ clean office stands. tt;
+    still = λ clean office stands none. tt;
     crash = crash;
   }
 
+  -- what is as it was twice is as it was
+  as_it_was_then : (a b c : State) → IsAsItWas a b → IsAsItWas b c → IsAsItWas a c
+  as_it_was_then a b c one two = (
+    record {
+      was_open = one.0.was_open;
+      is_open = two.0.is_open;
+      now_is = two.0.now_is ∙ one.0.now_is;
+      committed_is = two.0.committed_is ∙ one.0.committed_is;
+      mode = two.0.mode;
+    },
+    record { changes = two.1.changes ∙ one.1.changes; last_rowid = two.1.last_rowid ∙ one.1.last_rowid },
+  )
+
+  on_ok : {T E : Type 0} {P Q : Type 0} (r : Result T E) → (P → Q) → OnOk r P → OnOk r Q
+  on_ok (Ok x) next so = next so
+  on_ok (Err e) next so = tt
+
   -- what is read before a call is nothing to it
-  pub performed_then : {T : Type 0} (a b c : Held S) (call : Call) (r : Result T Failure) (IsShown : Reply → T → Type 0) → (HasCleanDisk (state g b) → IsTrue (state g b).is_open) → LeavesDesk g None a b → LeavesNext g a b (λ _. ⊥)
+  pub performed_then : {T : Type 0} (a b c : Held S) (call : Call) (r : Result T Failure) (IsShown : Reply → T → Type 0) → (HasCleanDisk (state g b) → IsTrue (state g b).is_open) → LeavesDesk g None a b → HoldsOfDesk g a b (λ _. IsAsItWas (state g a) (state g b)) → LeavesNext g a b (λ _. ⊥)
       → Performs g b c call r IsShown → Performs g a c call r IsShown
-  performed_then a b c call r IsShown is_open leaves crash then =
+  performed_then a b c call r IsShown is_open leaves same crash then =
       let stands_then : HasCleanDisk (state g c) → (office : OfficeLists) → Stands (state g a) office → Stands (state g b) office = λ clean office stands.
       let early = then.leaves.was_reliable clean in
       leaves.stands early (is_open early) office stands in
       record {
         done = λ clean office stands. then.done clean office (stands_then clean office stands);
+        declares = λ clean office stands. on_ok r (λ declared. declared ∙ ap (λ (d : Database). d.schema) (same (then.leaves.was_reliable clean) office stands).0.now_is) (then.declares clean office (stands_then clean office stands));
         leaves = leaves_then (λ desk. HasCleanDisk (state g desk)) (λ desk. IsTrue (state g desk).is_open) (λ desk office. Stands (state g desk) office) (λ desk. (state g desk).faults) (made_by r call) a b c leaves then.leaves;
+        ended = then.ended;
         stays_open = then.stays_open;
+        settled = then.settled;
         whole = λ clean office stands. then.whole clean office (stands_then clean office stands);
+        still = λ clean office stands none. on_ok r (as_it_was_then (state g a) (state g b) (state g c) (same (then.leaves.was_reliable clean) office stands)) (then.still clean office (stands_then clean office stands) none);
         crash = λ clean db may. elim (then.crash clean db may) [
           | inl was ↦ elim (crash (then.leaves.was_reliable clean) db was) [ inl before ↦ inl before | inr none ↦ absurd none ]
           | inr after ↦ inr (leaves.was_open (then.leaves.was_reliable clean) after.0, λ office stands. after.1 office (stands_then clean office stands))
@@ -163,6 +190,15 @@ module _ {S : Type 0} (g : store.Ghosts S) where
       }
 
   -- what is not found leaves no more than it is
-  pub not_found : {X : Type 0} (a b : Held S) (r : Result X Failure) (IsSo : OfficeLists → X → Type 0) → IsErr r → LeavesDesk g None a b → (IsDeskIfOpen (state g a) → Survives (state g a) (state g b) (λ _. ⊥)) → Finds g a b r IsSo
-  not_found a b (Ok x) IsSo failed leaves crash = absurd cc
-  not_found a b (Err e) IsSo failed leaves crash = record { found = λ clean office stands. tt; leaves = leaves; stays_open = λ clean. tt; whole = λ clean office stands. tt; crash = crash }
+  pub not_found : {X : Type 0} (a b : Held S) (r : Result X Failure) (IsSo : OfficeLists → X → Type 0) → IsErr r → LeavesDesk g None a b → b.in_transaction ≡ false → (IsDeskIfOpen (state g a) → Survives (state g a) (state g b) (λ _. ⊥)) → Finds g a b r IsSo
+  not_found a b (Ok x) IsSo failed leaves ended crash = absurd cc
+  not_found a b (Err e) IsSo failed leaves ended crash = record {
+    found = λ clean office stands. tt;
+    leaves = leaves;
+    ended = ended;
+    stays_open = λ clean. tt;
+    settled = λ clean. tt;
+    whole = λ clean office stands. tt;
+    still = λ clean office stands. tt;
+    crash = crash;
+  }

@@ -17,6 +17,7 @@ use Rattle.desk_words.specs.declared.office.OfficeLists.{OfficeLists}
 use Rattle.party_views.specs.Views.{public_of}
 use Rattle.meeting_core.specs.KeyHolders.{caller_with}
 use Rattle.sql_model.specs.Standing.{Stands}
+use Rattle.sql_open.specs.Crashes.{LeavesItself}
 use Rattle.sql_open.specs.WholeDesk.{LeavesWhole}
 use Rattle.sql_schema.specs.Tables.{desk_schema}
 use Rattle.desk_store.specs.declared.cache.Cache.{Cache}
@@ -44,10 +45,12 @@ pub record IsCacheOf (office : OfficeLists) (cache : Cache) : Type 0 where
   pub callers : AreCallersOf office cache.callers
   pub records : All (IsRecordOf office) cache.records.items
 
--- what was asked last was answered: the store is open, and a crash leaves the office for which the
--- tables stand, whole, and nothing else
+-- what was asked last was answered: no transaction is open and the store is, and a crash leaves the
+-- tables that are read, the office for which they stand, whole, and nothing else
 pub record WasAnswered {S : Type 0} (g : store.Ghosts S) (desk : Held S) : Type 0 where
+  pub ended : desk.in_transaction ≡ false
   pub is_open : HasCleanDisk (state g desk) → IsTrue (state g desk).is_open
+  pub settled : HasCleanDisk (state g desk) → LeavesItself (state g desk)
   pub whole : HasCleanDisk (state g desk) → (office : OfficeLists)
       → Stands (state g desk) office → LeavesWhole (state g desk) office
 

@@ -1,18 +1,16 @@
 //! A desk with a cache: callers and public records are read once, until they change.
-ghost use Rattle.std.specs.Prelude.{◌≡◌, false, IfOk, IfSome, IsTrue, None, Ok};
+ghost use Rattle.std.specs.Prelude.{◌≡◌, false, IfOk, IfSome, IsTrue, None, Ok, OnOk};
 ghost use Rattle.std.specs.Fn.{FnOnceReturnsAt};
-ghost use Rattle.desk_store.specs.Joins.{IsDeskIfOpen, LeavesDesk};
+ghost use Rattle.desk_store.specs.Joins.{IsAsItWas, LeavesDesk};
 ghost use Rattle.desk_store.specs.Cache.{IsCacheOf, IsValid, StandsIfMade, asked_in};
 ghost use Rattle.desk_store.specs.Caching.{Finds, LeavesNext, Performs, only_reply};
-ghost use Rattle.desk_store.specs.TableReads.{HoldsOfDesk, IsCallerWith};
+ghost use Rattle.desk_store.specs.TableReads.{HoldsOfDesk, IsCallerWith, IsPublic};
 ghost use Rattle.desk_words.specs.Office.{is_office};
 ghost use Rattle.desk_words.specs.declared.office.OfficeLists.{OfficeLists};
 ghost use Rattle.desk_words.specs.declared.request.PartyRequest.TheVariants.{Notice};
 ghost use Rattle.meeting_core.specs.Decisions.{party_call};
 ghost use Rattle.meeting_core.specs.Step.{decided};
-ghost use Rattle.party_views.specs.Views.{public_of};
 ghost use Rattle.sqlite.specs.Held.{state};
-ghost use Rattle.sqlite.specs.State.{Survives};
 
 use crate::cache::{Cache, cached_record};
 use crate::deciding::answer_notice;
@@ -160,11 +158,7 @@ impl<S: Alter> CachingDesk<S> {
 
     /// The public record of a meeting; where there is none of that name, the closed days alone.
     pub fn read_public(&mut self, meeting: MeetingId) -> Result<OwnedRecord, Failure>
-        ensures held { HoldsOfDesk S.Store self.old self.new
-            (λ office. IfOk result (λ found. found ≡ public_of office meeting)) }
-        ensures leaves { LeavesDesk S.Store None self.old self.new }
-        ensures crash { IsDeskIfOpen (state S.Store self.old)
-            → Survives (state S.Store self.old) (state S.Store self.new) (λ _. ⊥) }
+        ensures { Finds S.Store self.old self.new result (IsPublic meeting) }
     {
         self.cache = None;
         self.desk.read_public(meeting)
@@ -228,6 +222,9 @@ impl<S: Alter> CachingDesk<S> {
         requires cache { IsValid S.Store self.old cache }
         ensures cache { IfOk result (λ cache. IsValid S.Store self.new cache) }
         ensures leaves { LeavesDesk S.Store None self.old self.new }
+        ensures ended { self.new.in_transaction ≡ false }
+        ensures still { HoldsOfDesk S.Store self.old self.new (λ _. OnOk result
+            (IsAsItWas (state S.Store self.old) (state S.Store self.new))) }
         ensures crash { LeavesNext S.Store self.old self.new (λ _. ⊥) }
     {
         self.cache = None;

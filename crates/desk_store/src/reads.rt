@@ -5,7 +5,7 @@ ghost use Rattle.std.specs.Prelude.{◌≡◌, false, IfOk, IsTrue, None, OnOk};
 ghost use Rattle.sql_open.specs.Crashes.{LeavesItself};
 ghost use Rattle.sql_open.specs.Opened.{OnDone};
 ghost use Rattle.sql_open.specs.WholeDesk.{LeavesWhole};
-ghost use Rattle.desk_store.specs.Joins.{IsDeskIfOpen, LeavesDesk};
+ghost use Rattle.desk_store.specs.Joins.{IsAsItWas, IsDeskIfOpen, LeavesDesk};
 ghost use Rattle.party_views.specs.Views.{public_of};
 ghost use Rattle.desk_store.specs.TableReads.{HoldsOfDesk};
 ghost use Rattle.meeting_core.specs.KeyHolders.{caller_with};
@@ -30,6 +30,8 @@ impl<S: Alter> Desk<S> {
         ensures settled { OnDone S.Store self.new result (LeavesItself (state S.Store self.new)) }
         ensures whole { HoldsOfDesk S.Store self.old self.new
             (λ office. OnOk result (LeavesWhole (state S.Store self.new) office)) }
+        ensures still { HoldsOfDesk S.Store self.old self.new (λ _. OnOk result
+            (IsAsItWas (state S.Store self.old) (state S.Store self.new))) }
         ensures crash { IsDeskIfOpen (state S.Store self.old)
             → Survives (state S.Store self.old) (state S.Store self.new) (λ _. ⊥) }
     {
@@ -52,6 +54,8 @@ impl<S: Alter> Desk<S> {
         ensures settled { OnDone S.Store self.new result (LeavesItself (state S.Store self.new)) }
         ensures whole { HoldsOfDesk S.Store self.old self.new
             (λ office. OnOk result (LeavesWhole (state S.Store self.new) office)) }
+        ensures still { HoldsOfDesk S.Store self.old self.new (λ _. OnOk result
+            (IsAsItWas (state S.Store self.old) (state S.Store self.new))) }
         ensures crash { IsDeskIfOpen (state S.Store self.old)
             → Survives (state S.Store self.old) (state S.Store self.new) (λ _. ⊥) }
     {
@@ -70,6 +74,8 @@ impl<S: Alter> Desk<S> {
         ensures settled { OnDone S.Store self.new result (LeavesItself (state S.Store self.new)) }
         ensures whole { HoldsOfDesk S.Store self.old self.new
             (λ office. OnOk result (LeavesWhole (state S.Store self.new) office)) }
+        ensures still { HoldsOfDesk S.Store self.old self.new (λ _. OnOk result
+            (IsAsItWas (state S.Store self.old) (state S.Store self.new))) }
         ensures crash { IsDeskIfOpen (state S.Store self.old)
             → Survives (state S.Store self.old) (state S.Store self.new) (λ _. ⊥) }
     {

@@ -6,7 +6,7 @@ ghost use Rattle.desk_words.specs.Registers.{member_before};
 ghost use Rattle.party_views.specs.RowsRead.{own_rows_read};
 ghost use Rattle.party_views.specs.PartyRows.{own_rows};
 
-use crate::members::{claims_by, count_given_by, naming, naming_by};
+use crate::members::{claims_by, count_given_by, given_to, naming};
 use crate::party_records::{
     casts_of, count_cast_on, demands_of, ended_by, persons_of, presences_of, row_of, shares_of,
     trusting, trusting_for,
@@ -17,7 +17,7 @@ use desk_words::{
 };
 use party_views::{OwnRows, Reads, reads_of};
 use proxy_rules::{Claim, given_by};
-use row_source::RowSource;
+use row_source::{GivenTo, RowSource};
 use std::alloc::{AllocError, Global};
 
 /// The lists of a meeting, whose register stands in the order of members.
@@ -66,12 +66,8 @@ impl RowSource for InLists<'_> {
         naming(self.alloc, &self.lists.appointments, party)
     }
 
-    fn naming_by(
-        &mut self,
-        member: Party,
-        party: Party,
-    ) -> Result<Listing<Appointment>, AllocError> {
-        naming_by(self.alloc, &self.lists.appointments, member, party)
+    fn given_to(&mut self, member: Party, party: Party) -> Result<GivenTo, AllocError> {
+        given_to(self.alloc, &self.lists.appointments, member, party)
     }
 
     fn ended_by(&mut self, member: Party) -> Result<Listing<Ending>, AllocError> {

@@ -5,6 +5,7 @@ ghost use Rattle.proxy_rules.specs.Parties.{names};
 
 use desk_words::{Appointment, Filed, Listing, Party};
 use proxy_rules::Claim;
+use row_source::GivenTo;
 use std::alloc::{AllocError, Global};
 
 /// What of a member's appointments decides which shares they govern.
@@ -45,7 +46,7 @@ pub(crate) fn naming(
 }
 
 /// Those of them that a member gave.
-pub(crate) fn naming_by(
+fn naming_by(
     alloc: Global,
     appointments: &Filed<Appointment>,
     member: Party,
@@ -63,4 +64,25 @@ pub(crate) fn naming_by(
         }
     }
     Ok(found)
+}
+
+/// Those of the appointments that a member gave that name a party, and what of all of them decides
+/// which shares they govern.
+pub(crate) fn given_to(
+    alloc: Global,
+    appointments: &Filed<Appointment>,
+    member: Party,
+    party: Party,
+) -> Result<GivenTo, AllocError>
+    ensures { IfOk result (λ given. given ≡ record {
+      received = filter (is_given_by member) (filter (names party) appointments.now);
+      claims = map claim_of (filter (is_given_by member) appointments.now);
+    }) }
+{
+    let received = naming_by(alloc, appointments, member, party)?;
+    let claims = claims_by(alloc, appointments, member)?;
+    Ok(GivenTo {
+        received,
+        claims: Listing::from_vec(claims),
+    })
 }

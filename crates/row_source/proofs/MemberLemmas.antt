@@ -1,5 +1,5 @@
 -- Members, each once.
-use Rattle.std.proofs.Common.{◌≡◌, ℕ, ◌+◌, ◌<◌, nat_eq, Bool, true, false, not, ◌||◌, cond, List, [], ◌∷◌, ◌++◌, length, get_or, filter, map, take, refl, sym, ap, ◌∙◌, true≢false, arith}
+use Rattle.std.proofs.Common.{◌≡◌, ℕ, ◌+◌, ◌<◌, nat_eq, Bool, true, false, not, ◌||◌, cond, List, [], ◌∷◌, ◌++◌, length, get_or, filter, map, take, Option, refl, sym, ap, ◌∙◌, true≢false, arith}
 use Rattle.std.specs.Cmp.Lexicographic.{texts_ties}
 use Rattle.std.specs.List.{list_any}
 use Rattle.std.specs.Ordering.{is_eq}
@@ -20,7 +20,7 @@ use Rattle.party_views.specs.declared.own_rows.MemberRows.{MemberRows}
 use Rattle.party_views.proofs.OwnLemmas.{filter-map, filter-swap}
 use Rattle.proxy_rules.proofs.ProxyNameLemmas.{same_name-sym}
 use Rattle.proxy_rules.specs.Holdings.{is_given_by}
-use Rattle.row_source.specs.LookUps.{givers_among}
+use Rattle.row_source.specs.LookUps.{givers_among, member_at}
 
 -- the names are not the same
 abbrev differs : List ℕ → List ℕ → Bool
@@ -166,6 +166,42 @@ each_once-of member (name ∷ names) =
       | true ↦ λ same. absurd (true≢false (sym is ∙ ap (of member) (same_name-true x name same) ∙ unlike))
       | false ↦ λ _. refl
     ]) refl
+
+-- none of those of a member is another's
+none_apart : (member : List ℕ) (names : List (List ℕ)) → filter (differs member) (filter (of member) names) ≡ []
+none_apart member [] = refl
+none_apart member (name ∷ names) =
+    let rest = none_apart member names in
+    (elim (of member name) as (λ b. of member name ≡ b → filter (differs member) (cond b (name ∷ filter (of member) names) (filter (of member) names)) ≡ []) [
+      | true ↦ λ is. ap (λ b. cond (not b) (name ∷ filter (differs member) (filter (of member) names)) (filter (differs member) (filter (of member) names))) is ∙ rest
+      | false ↦ λ _. rest
+    ]) refl
+
+-- the member, where it gave one
+abbrev if_any : List Appointment → List ℕ → List (List ℕ)
+if_any [] member = []
+if_any (a ∷ given) member = member ∷ []
+
+-- whoever gave some that a member gave is the member
+one_giver : (member : List ℕ) (given : List Appointment) → givers (filter (is_given_by member) given) ≡ if_any (filter (is_given_by member) given) member
+one_giver member [] = refl
+one_giver member (a ∷ given) =
+    let theirs = filter (is_given_by member) given in
+    let alone : filter (differs member) (givers theirs) ≡ [] =
+    ap (λ names. filter (differs member) (parties_once names)) (sym (filter-map (of member) member_of given)) ∙ ap (filter (differs member)) (each_once-of member (map member_of given)) ∙ none_apart member (parties_once (map member_of given)) in
+    (elim (of member a.member) as (λ b. of member a.member ≡ b → givers (cond b (a ∷ theirs) theirs) ≡ if_any (cond b (a ∷ theirs) theirs) member) [
+      | true ↦ λ is. ap (λ name. name ∷ filter (differs name) (givers theirs)) (same_name-true a.member member is) ∙ ap (λ names. member ∷ names) alone
+      | false ↦ λ _. one_giver member given
+    ]) refl
+
+-- where there is one of them, the member alone gave them
+pub one_named : (found : Option MeetingLists) (member : List ℕ) (given : List Appointment) (is_empty : Bool) → is_empty ≡ false → is_empty ≡ nat_eq (length (filter (is_given_by member) given)) 0
+    → member_at found member ∷ [] ≡ map (member_at found) (givers (filter (is_given_by member) given))
+one_named found member given is_empty so is = alone (filter (is_given_by member) given) is ∙ ap (map (member_at found)) (sym (one_giver member given))
+  where
+    alone : (received : List Appointment) → is_empty ≡ nat_eq (length received) 0 → member_at found member ∷ [] ≡ map (member_at found) (if_any received member)
+    alone [] is = absurd (true≢false (sym is ∙ so))
+    alone (a ∷ received) is = refl
 
 -- what a vote reads of the members
 pub members-read : (m : MeetingLists) (new : NewCast) (capacity : Capacity) (received : List Appointment)

@@ -1,5 +1,5 @@
 -- One look-up after another.
-use Rattle.std.proofs.Common.{◌≡◌, Option, Result, Ok, Err, IsErrAnd, ap, sym, subst}
+use Rattle.std.proofs.Common.{◌≡◌, Option, Result, Ok, Err, IsErrAnd, ap, refl, sym, subst}
 use Rattle.desk_words.specs.declared.office.MeetingLists.{MeetingLists}
 use Rattle.row_source.specs.TrueLookUps.{IsTrueLookUp}
 
@@ -45,3 +45,9 @@ module _ {S E : Type 0} (trusted : S → Type 0) (shows : S → Option MeetingLi
       preserved = tt;
       left = leaves_then a b c one.preserved two.left;
     })
+
+    -- so may it not, and then both are known
+    pub holds_then : {X Y : Type 0} (a b c : S) (x : X) (r : Result Y E) (P : Option MeetingLists → X → Type 0) (Q R : Option MeetingLists → Y → Type 0) → ((found : Option MeetingLists) (y : Y) → P found x → Q found y → R found y)
+        → IsTrueLookUp trusted shows keeps leaves may_fail a b (Ok x) P → IsTrueLookUp trusted shows keeps leaves may_fail b c r Q → IsTrueLookUp trusted shows keeps leaves may_fail a c r R
+    holds_then a b c x (Ok y) P Q R so one two = holds_so a c y y (λ found z. P found x × Q found z) R (holds_both a b c x y P Q one two) (λ found p. so found y p.0 p.1)
+    holds_then a b c x (Err e) P Q R so one two = holds_after a b c x e (Err e) P Q R refl one two

@@ -11,9 +11,9 @@ use Rattle.desk_words.specs.declared.records.DemandMark.{DemandMark}
 use Rattle.desk_words.specs.declared.records.Ending.{Ending}
 use Rattle.desk_words.specs.declared.records.PresenceMark.{PresenceMark}
 use Rattle.desk_words.specs.declared.records.RegisterRow.{RegisterRow}
-use Rattle.proxy_rules.specs.Holdings.{claims_of, holding_of, is_given_by}
+use Rattle.proxy_rules.specs.Holdings.{claim_of, claims_of, holding_of, is_ended_of, is_given_by}
 use Rattle.proxy_rules.specs.Parties.{authorises, is_authority_of, is_cast_by, is_demanded_by, names}
-use Rattle.proxy_rules.specs.Shares.{row_of}
+use Rattle.proxy_rules.specs.Shares.{row_of, shares_by}
 use Rattle.party_views.specs.OwnCasts.{counted_on}
 use Rattle.party_views.specs.declared.own_rows.OwnCasts.TheVariants.{All}
 use Rattle.party_views.specs.RowsRead.{is_instructing}
@@ -24,6 +24,7 @@ use Rattle.party_views.specs.declared.own_rows.OwnRows.{OwnRows}
 use Rattle.row_source.specs.declared.members.ReceivedRows.{ReceivedRows}
 use Rattle.row_source.specs.declared.needed_rows.ActingRows.{ActingRows}
 use Rattle.row_source.specs.declared.needed_rows.OwnMarks.{OwnMarks}
+use Rattle.row_source.specs.declared.source.GivenTo.{GivenTo}
 
 -- a list of a meeting that is found
 abbrev pub list_in : {A : Type 0} → (MeetingLists → List A) → Option MeetingLists → List A
@@ -65,10 +66,12 @@ naming_in found party = filter (names party) (appointments_in found)
 abbrev pub naming_by_in : Option MeetingLists → Party → Party → List Appointment
 naming_by_in found member party = filter (is_given_by member) (naming_in found party)
 
--- or of all, where no giver is named
-abbrev pub received_from : Option MeetingLists → Option Party → Party → List Appointment
-received_from found None party = naming_in found party
-received_from found (Some member) party = naming_by_in found member party
+-- and what of all that the member gave decides which shares they govern
+abbrev pub given_to_in : Option MeetingLists → Party → Party → GivenTo
+given_to_in found member party = record {
+  received = naming_by_in found member party;
+  claims = map claim_of (filter (is_given_by member) (appointments_in found));
+}
 
 -- its authorities that a party was given (section 323)
 abbrev pub trusting_in : Option MeetingLists → Party → List Authority
@@ -87,6 +90,17 @@ trusting_from found (Some corporation) party = trusting_for_in found corporation
 -- its votes that a party cast
 abbrev pub casts_by : Option MeetingLists → Party → List CastMark
 casts_by found party = filter (is_cast_by party) (casts_in found)
+
+-- a member, with its shares, these claims of its appointments, and its endings
+abbrev pub member_with : Option MeetingLists → Party → List Appointment → MemberRows
+member_with found member claims = record {
+  member = member;
+  holding = record {
+    shares = shares_by (register_in found) member;
+    appointed = claims;
+    ended = filter (is_ended_of member) (endings_in found);
+  };
+}
 
 -- a member, with its shares, the claims of its appointments, and its endings
 abbrev pub member_at : Option MeetingLists → Party → MemberRows

@@ -6,4 +6,4 @@ mod needed_rows;
 mod source;
 
 pub use needed_rows::{no_own_rows, read_own_rows};
-pub use source::RowSource;
+pub use source::{GivenTo, RowSource};

@@ -1,19 +1,19 @@
 //! The members who named a party, and the corporations that authorised it.
-ghost use Rattle.std.specs.Prelude.{◌≡◌, ℕ, List, IfOk, filter, map};
+ghost use Rattle.std.specs.Prelude.{◌≡◌, ℕ, List, IfOk, None, filter, map};
 ghost use Rattle.std.specs.BTreeSet.{contains};
 ghost use Rattle.vocabulary.specs.Names.{name_cmp};
 ghost use Rattle.std.specs.List.{list_any};
 ghost use Rattle.proxy_rules.specs.Holdings.{is_given_by};
 ghost use Rattle.party_views.specs.RowsRead.{is_instructing};
 ghost use Rattle.party_views.specs.PartyRows.{givers};
-ghost use Rattle.row_source.specs.LookUps.{authority_at, member_at, received_from, trusting_from};
+ghost use Rattle.row_source.specs.LookUps.{authority_at, member_at, member_with, naming_by_in, naming_in, trusting_from};
 ghost use Rattle.row_source.specs.LookUps.{chosen, chosen_givers, givers_among, with_givers};
 ghost use Rattle.row_source.specs.TrueLookUps.{IsTrueLookUp};
 
-use crate::source::RowSource;
+use crate::source::{GivenTo, RowSource};
 use desk_words::{Appointment, Authority, Listing, Party};
 use party_views::{AuthorityRows, MemberRows};
-use proxy_rules::{Claims, instructed_on};
+use proxy_rules::{Claim, Claims, instructed_on};
 use std::alloc::{AllocError, Global};
 use std::collections::BTreeSet;
 
@@ -25,18 +25,30 @@ pub(crate) struct ReceivedRows {
     pub(crate) members: Listing<MemberRows>,
 }
 
-/// A member, with its shares, the claims of its appointments, and its endings.
-fn member_rows<R: RowSource>(source: &mut R, member: Party) -> Result<MemberRows, R::Error>
+/// A member, with its shares, these claims of its appointments, and its endings.
+fn member_with<R: RowSource>(
+    source: &mut R,
+    member: Party,
+    claims: Listing<Claim>,
+) -> Result<MemberRows, R::Error>
     ensures { IsTrueLookUp R.trusted R.shows R.keeps R.leaves R.may_fail source.old source.new result
-        (λ found rows. rows ≡ member_at found member) }
+        (λ found rows. rows ≡ member_with found member claims) }
 {
     let shares = source.shares_of(member)?;
-    let claims = source.claims_by(member)?;
     let ended = source.ended_by(member)?;
     Ok(MemberRows {
         member,
         holding: Claims::new(shares, claims, ended),
     })
+}
+
+/// A member, with its shares, the claims of its appointments, and its endings.
+fn member_rows<R: RowSource>(source: &mut R, member: Party) -> Result<MemberRows, R::Error>
+    ensures { IsTrueLookUp R.trusted R.shows R.keeps R.leaves R.may_fail source.old source.new result
+        (λ found rows. rows ≡ member_at found member) }
+{
+    let claims = source.claims_by(member)?;
+    member_with(source, member, claims)
 }
 
 /// The members who gave the appointments, each once, where it first gave one.
@@ -54,21 +66,6 @@ fn givers(alloc: Global, given: &[Appointment]) -> Result<Vec<Party>, AllocError
         }
     }
     Ok(members)
-}
-
-/// The appointments that name a party, or those that a giver gave, where one is named.
-fn received_from<R: RowSource>(
-    source: &mut R,
-    giver: Option<Party>,
-    party: Party,
-) -> Result<Listing<Appointment>, R::Error>
-    ensures { IsTrueLookUp R.trusted R.shows R.keeps R.leaves R.may_fail source.old source.new result
-        (λ found received. received ≡ received_from found giver party) }
-{
-    match giver {
-        None => source.naming(party),
-        Some(member) => source.naming_by(member, party),
-    }
 }
 
 /// Those of the appointments that instruct on a resolution (section 324A).
@@ -153,20 +150,44 @@ fn choose(alloc: Global, given: Listing<Appointment>, on: Option<u64>) -> Result
     }
 }
 
-/// The appointments that name a party (section 324), or those that a giver gave, where one is
-/// named; of them those that instruct on a resolution, where one is named; and the members who gave
-/// them. Of a member who gave none of them nothing else is looked up.
+/// The appointments that a member gave and that name a party (section 324), and the member, where
+/// there is one. The member's appointments are looked up once; where none names the party, nothing
+/// else is.
+pub(crate) fn named_by<R: RowSource>(
+    source: &mut R,
+    alloc: Global,
+    member: Party,
+    party: Party,
+) -> Result<ReceivedRows, R::Error>
+    ensures { IsTrueLookUp R.trusted R.shows R.keeps R.leaves R.may_fail source.old source.new result
+        (λ found named. named ≡ with_givers found None (naming_by_in found member party)) }
+{
+    let given = source.given_to(member, party)?;
+    let GivenTo { received, claims } = given;
+    if received.is_empty() {
+        return Ok(ReceivedRows {
+            received,
+            members: Listing::new(alloc),
+        });
+    }
+    let mut members = Listing::new(alloc);
+    members.push(member_with(source, member, claims)?)?;
+    Ok(ReceivedRows { received, members })
+}
+
+/// The appointments that name a party (section 324), or of them those that instruct on a
+/// resolution, where one is named; and the members who gave them. Of a member who gave none of them
+/// nothing else is looked up.
 pub(crate) fn named<R: RowSource>(
     source: &mut R,
     alloc: Global,
-    giver: Option<Party>,
     party: Party,
     on: Option<u64>,
 ) -> Result<ReceivedRows, R::Error>
     ensures { IsTrueLookUp R.trusted R.shows R.keeps R.leaves R.may_fail source.old source.new result
-        (λ found named. named ≡ with_givers found on (received_from found giver party)) }
+        (λ found named. named ≡ with_givers found on (naming_in found party)) }
 {
-    let given = received_from(source, giver, party)?;
+    let given = source.naming(party)?;
     let chosen = choose(alloc, given, on)?;
     let Chosen { received, givers } = chosen;
     let mut members = Listing::from_vec(Vec::with_capacity(alloc, givers.len())?);

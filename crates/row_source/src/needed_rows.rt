@@ -9,7 +9,7 @@ ghost use Rattle.row_source.specs.LookUps.{acting_for, authority_at, casts_by, f
 ghost use Rattle.row_source.specs.LookUps.{with_givers};
 ghost use Rattle.row_source.specs.TrueLookUps.{IsTrueLookUp};
 
-use crate::members::{authorised, named};
+use crate::members::{authorised, named, named_by};
 use crate::source::RowSource;
 use desk_words::{Appointment, Capacity, DemandMark, Listing, NewCast, Party, RegisterRow};
 use party_views::{AuthorityRows, MemberRows, OwnCasts, OwnRows, Reads, holds_as_individual};
@@ -60,7 +60,7 @@ fn acting_for<R: RowSource>(
     ensures { IsTrueLookUp R.trusted R.shows R.keeps R.leaves R.may_fail source.old source.new result
         (λ found acting. acting ≡ acting_for found party) }
 {
-    let named = named(source, alloc, None, party, None)?;
+    let named = named(source, alloc, party, None)?;
     let authorised = authorised(source, alloc, None, party)?;
     Ok(ActingRows {
         received: named.received,
@@ -246,7 +246,7 @@ fn for_instructed<R: RowSource>(
     ensures { IsTrueLookUp R.trusted R.shows R.keeps R.leaves R.may_fail source.old source.new result
         (λ found rows. rows ≡ own_rows_part (reads.AsInstructed resolution) (own_rows_in found party)) }
 {
-    let named = named(source, alloc, None, party, Some(resolution))?;
+    let named = named(source, alloc, party, Some(resolution))?;
     let count = source.count_cast_on(party, resolution)?;
     Ok(OwnRows {
         received: named.received,
@@ -316,7 +316,7 @@ fn for_proxy<R: RowSource>(
           casts = counted_on new.now.resolution (All (casts_by found party));
         }) }
 {
-    let named = named(source, alloc, Some(new.member), party, None)?;
+    let named = named_by(source, alloc, new.member, party)?;
     let count = source.count_cast_on(party, new.resolution)?;
     Ok(OwnRows {
         received: named.received,

@@ -7,7 +7,7 @@ ghost use Rattle.proxy_rules.specs.Holdings.{claim_of, is_ended_of, is_given_by}
 ghost use Rattle.proxy_rules.specs.Parties.{is_authority_of, is_demanded_by};
 ghost use Rattle.proxy_rules.specs.Shares.{row_of, shares_by};
 ghost use Rattle.row_source.specs.LookUps.{appointments_in, authorities_in, casts_by, demands_in};
-ghost use Rattle.row_source.specs.LookUps.{endings_in, naming_by_in, naming_in, presences_in, register_in};
+ghost use Rattle.row_source.specs.LookUps.{endings_in, given_to_in, naming_in, presences_in, register_in};
 ghost use Rattle.row_source.specs.LookUps.{trusting_for_in, trusting_in};
 ghost use Rattle.row_source.specs.TrueLookUps.{IsTrueLookUp};
 
@@ -16,6 +16,14 @@ use desk_words::{
 };
 use proxy_rules::Claim;
 use std::alloc::AllocError;
+
+/// Of the appointments that a member gave those that name a party, and what of all of them decides
+/// which shares they govern.
+#[derive(Drop)]
+pub struct GivenTo {
+    pub received: Listing<Appointment>,
+    pub claims: Listing<Claim>,
+}
 
 /// What looks a meeting's records up by the names that are on them. Each list is in order of
 /// receipt; where there is no meeting nothing is found.
@@ -69,14 +77,11 @@ pub trait RowSource {
         ensures { IsTrueLookUp trusted shows keeps leaves may_fail self.old self.new result
             (λ found received. received ≡ naming_in found party) };
 
-    /// Those of them that a member gave.
-    fn naming_by(
-        &mut self,
-        member: Party,
-        party: Party,
-    ) -> Result<Listing<Appointment>, Self::Error>
+    /// Those of them that a member gave, and what of all that it gave decides which shares they
+    /// govern.
+    fn given_to(&mut self, member: Party, party: Party) -> Result<GivenTo, Self::Error>
         ensures { IsTrueLookUp trusted shows keeps leaves may_fail self.old self.new result
-            (λ found received. received ≡ naming_by_in found member party) };
+            (λ found given. given ≡ given_to_in found member party) };
 
     /// A member's endings of its appointments (section 330).
     fn ended_by(&mut self, member: Party) -> Result<Listing<Ending>, Self::Error>

@@ -9,7 +9,7 @@ ghost use Rattle.proxy_rules.specs.Shares.{row_of, shares_by, shares_of};
 ghost use Rattle.party_views.specs.OwnCasts.{cast_count};
 ghost use Rattle.party_views.specs.PartyRows.{presences_of};
 ghost use Rattle.party_views.specs.Views.{meeting_at};
-ghost use Rattle.row_source.specs.LookUps.{appointments_in, authorities_in, casts_by, casts_in, naming_by_in, trusting_for_in};
+ghost use Rattle.row_source.specs.LookUps.{appointments_in, authorities_in, casts_by, casts_in, given_to_in, trusting_for_in};
 ghost use Rattle.row_source.specs.LookUps.{demands_in, endings_in, presences_in, register_in};
 ghost use Rattle.sql_load.specs.TableLookUps.{HoldsOfStoredOffice};
 
@@ -19,6 +19,7 @@ use desk_words::{
 };
 use party_views::OwnCasts;
 use proxy_rules::{Claim, claims_in, shares};
+use row_source::GivenTo;
 use sql_assemble::LoadError;
 use sql_load::query_records::{counted, first, items, records_found};
 use sql_queries::{appointments, authorities, casts, demands, endings, presences, register};
@@ -150,21 +151,25 @@ fn naming_among(given: Listing<Appointment>, party: Party) -> Listing<Appointmen
     Listing::from_vec(found)
 }
 
-/// Those of them that a member gave. They are chosen among all that the member gave, which are few:
-/// of two indexes that serve a statement with both names it is not known which one is taken.
-pub(crate) fn naming_by<S: Alter>(
+/// Those of them that a member gave, and what of all that it gave decides which shares they govern.
+/// All that the member gave are read by one statement, and are few.
+pub(crate) fn given_to<S: Alter>(
     tx: &mut Transaction<'_, S>,
     alloc: Global,
     meeting: MeetingId,
     member: Party,
     party: Party,
-) -> Result<Listing<Appointment>, LoadError>
+) -> Result<GivenTo, LoadError>
     ensures same_reference { tx.new.conn.ghost_name ≡ tx.old.conn.ghost_name }
     ensures holds { HoldsOfStoredOffice S.Store tx.old.conn.now tx.new.conn.now result
-        (λ office received. received ≡ naming_by_in (meeting_at office meeting) member party) }
+        (λ office given. given ≡ given_to_in (meeting_at office meeting) member party) }
 {
     let given = given_by(tx, alloc, meeting, member)?;
-    Ok(naming_among(given, party))
+    let claims = claims_in(alloc, given.as_slice())?;
+    Ok(GivenTo {
+        received: naming_among(given, party),
+        claims: Listing::from_vec(claims),
+    })
 }
 
 /// A member's endings of its appointments (section 330), in order of receipt.

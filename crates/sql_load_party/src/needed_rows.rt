@@ -11,8 +11,8 @@ ghost use Rattle.sql_load.specs.TableLookUps.{HoldsOfStoredOffice, IsLookUpFailu
 ghost use Rattle.sql_load_party.specs.LookUpLaws as laws;
 
 use crate::look_ups::{
-    casts_of, claims_by, count_cast_on, count_given_by, demands_of, ended_by, given_by, naming,
-    naming_by, persons_of, presences_of, row_of, shares_of, trusting, trusting_for,
+    casts_of, claims_by, count_cast_on, count_given_by, demands_of, ended_by, given_by,
+    given_to, naming, persons_of, presences_of, row_of, shares_of, trusting, trusting_for,
 };
 use desk_words::{
     Appointment, Authority, CastMark, DemandMark, Ending, Listing, MeetingId, Party, PartyRequest,
@@ -20,7 +20,7 @@ use desk_words::{
 };
 use party_views::{OwnRows, Reads, reads_of};
 use proxy_rules::Claim;
-use row_source::RowSource;
+use row_source::{GivenTo, RowSource};
 use sql_assemble::LoadError;
 use sqlite::{Alter, Transaction};
 use std::alloc::Global;
@@ -74,12 +74,8 @@ impl<S: Alter> RowSource for InTables<'_, '_, S> {
         naming(self.tx, self.alloc, self.meeting, party)
     }
 
-    fn naming_by(
-        &mut self,
-        member: Party,
-        party: Party,
-    ) -> Result<Listing<Appointment>, LoadError> {
-        naming_by(self.tx, self.alloc, self.meeting, member, party)
+    fn given_to(&mut self, member: Party, party: Party) -> Result<GivenTo, LoadError> {
+        given_to(self.tx, self.alloc, self.meeting, member, party)
     }
 
     fn ended_by(&mut self, member: Party) -> Result<Listing<Ending>, LoadError> {

@@ -8,7 +8,7 @@ use Rattle.sql_model.specs.Standing.{Stands}
 use Rattle.sql_schema.specs.Statements.{IsDesk}
 use Rattle.sql_open.proofs.CrashLemmas.{nothing_then}
 use Rattle.sql_open.proofs.WholeLemmas.{leaves_whole}
-use Rattle.desk_store.proofs.JoinLemmas.{IsOver, asked_stands, asked_stop, begun_sound, desk_behind, desk_clean, leaves_behind, committed, dropped, itself_after, not_committed, survives_nothing, survives_read, holds_within}
+use Rattle.desk_store.proofs.JoinLemmas.{IsOver, as_it_was, asked_stands, asked_stop, begun_sound, desk_behind, desk_clean, leaves_behind, committed, dropped, itself_after, not_committed, same_behind, survives_nothing, survives_read, holds_within}
 use Rattle.desk_store.proofs.KeepingLemmas.{stands_same}
 use Rattle.desk_store.proofs.DeskReadLemmas.{error_of, mapped_failed, mapped_is, mapped_on}
 use Rattle.desk_store.proofs.desk.Desk.read.Goals as goal
@@ -114,3 +114,21 @@ returns-clause-whole g c = λ clean office stands.
     let sound = begun_sound g.S.Store c.args.self.now c.ask_open.new.self asked c.transaction-tx.result.conn.now c.read.new.tx.conn.now begun within early in
     leaves_whole end office (stands_same first end office now_is there) (subst IsDatabase (sym now_is) sound)
     (itself_after g.S.Store c.read.new.tx.conn.now c.commit.new.self.0 g.met.S.Store.settled g.met.S.Store.stays over)
+
+pub returns-clause-still : goal.returns-clause-still
+returns-clause-still g c = λ clean office stands.
+    let old = state g.S.Store c.ask_open.new.self in
+    let first = state g.S.Store c.transaction-tx.result.conn.now in
+    let mid = state g.S.Store c.read.new.tx.conn.now in
+    let end = state g.S.Store c.commit.new.self.0 in
+    let begun : c.transaction-tx.result.conn.now ≡ record c.ask_open.new.self { in_transaction = true } = search rules in
+    let within = holds_within g.S.Store c.transaction-tx.result.conn.now c.read.new.tx.conn.now c.read.result (g.R.Reading.finds c.args.what.now) c.read.ensures.holds in
+    let asked = c.in_ok-ask_open.ensures.asked in
+    let opened = desk_clean g.S.Store c.ask_open.new.self c.transaction-tx.result.conn.now c.read.new.tx.conn.now c.commit.new.self.0 begun within c.commit.ensures.ended c.commit.ensures.survives clean in
+    let there = stands_same old first office (ap (λ h. (state g.S.Store h).now) begun) (asked_stands g.S.Store c.args.self.now c.ask_open.new.self asked opened office stands) in
+    let early : HasCleanDisk mid = omega (arith, c.commit.ensures.survives.clean) in
+    let settled : IsTrue old.is_open → old.now ≡ old.committed = search rules in
+    let same = mapped_on {W = IsUnchanged first mid} _ c.read.result c.map_err.result c.in_ok-found.found c.map_err.ensures.cases c.in_ok-found.was (c.read.ensures.holds.same (early, there.desk)) in
+    let over = mapped_on {W = IsOver mid end} _ c.commit.result c.map_err-2.result c.in_ok-map_err.field-0 c.map_err-2.ensures.cases c.in_ok-map_err.was (c.commit.ensures.ok clean) in
+    same_behind g.S.Store c.args.self.now c.ask_open.new.self asked end opened
+    (as_it_was g.S.Store c.ask_open.new.self c.transaction-tx.result.conn.now c.read.new.tx.conn.now c.commit.new.self.0 begun within c.commit.ensures.ended c.commit.ensures.survives settled same over.1 over.2)
