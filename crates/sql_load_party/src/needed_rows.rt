@@ -11,8 +11,8 @@ ghost use Rattle.sql_load.specs.TableLookUps.{HoldsOfStoredOffice, IsLookUpFailu
 ghost use Rattle.sql_load_party.specs.LookUpLaws as laws;
 
 use crate::look_ups::{
-    casts_of, claims_by, count_cast_on, count_given_by, demands_of, ended_by, given_by,
-    given_to, naming, persons_of, presences_of, row_of, shares_of, trusting, trusting_for,
+    casts_of, claims_by, count_cast_on, count_given_by, demands_of, ended_by, given_by, given_to,
+    naming, persons_of, presences_of, row_of, shares_of, trusting, trusting_for,
 };
 use desk_words::{
     Appointment, Authority, CastMark, DemandMark, Ending, Listing, MeetingId, Party, PartyRequest,

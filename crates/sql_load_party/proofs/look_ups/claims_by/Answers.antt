@@ -1,5 +1,4 @@
-use Rattle.std.proofs.Common.{List, map, ap, ◌∙◌}
-use Rattle.desk_words.specs.declared.records.Appointment.{Appointment}
+use Rattle.std.proofs.Common.{map, ap, ◌∙◌}
 use Rattle.proxy_rules.specs.Holdings.{claim_of}
 use Rattle.sql_load.proofs.StoredOfficeLemmas.{holds_so}
 use Rattle.sql_load_party.proofs.look_ups.claims_by.Goals as goal
