@@ -1,6 +1,6 @@
 -- The cache of a desk, and what keeps it valid.
-use Rattle.std.proofs.Common.{◌≡◌, ℕ, Bool, true, false, cond, List, [], All, Option, Some, None, IfSome, IsTrue, inl, inr, refl, sym, ap, subst, ◌∙◌, true≢false}
-use Rattle.std.specs.Prelude.{Result, Ok, Err, IsErr, OnErr, OnOk}
+use Rattle.std.proofs.Common.{◌≡◌, ℕ, Bool, true, false, cond, List, [], All, Option, Some, None, IfSome, IsTrue, inl, inr, refl, sym, ap, subst, ◌∙◌, true≢false, arith}
+use Rattle.std.specs.Prelude.{Result, Ok, Err, IfOk, IsErr, OnErr, OnOk}
 use Rattle.std.proofs.lemmas.List.{append-nil}
 use Rattle.std.specs.BTreeMap.{BTreeMap, IsUnchanged, Updates, get, is_at}
 use Rattle.std.specs.Cmp.Lexicographic.{bytes_decides, texts_ties}
@@ -13,6 +13,8 @@ use Rattle.sqlite_trees.specs.declared.store.Store as store
 use Rattle.any_office.specs.StoredOffice.{made_by, office_after}
 use Rattle.any_office.proofs.OfficeHomeLemmas.{leaves_then}
 use Rattle.desk_words.specs.Changes.{applied_if_any}
+use Rattle.desk_words.specs.Office.{is_office}
+use Rattle.desk_words.specs.declared.answer.Answer.{Answer}
 use Rattle.desk_words.specs.declared.change.Change.{Change}
 use Rattle.desk_words.specs.declared.change.Change.TheVariants.{AddMeeting, InMeeting, SetClosedDays, SetKeys}
 use Rattle.desk_words.specs.declared.change.MeetingChange.TheVariants.{Enter}
@@ -32,10 +34,12 @@ use Rattle.sql_open.specs.declared.version.KnownVersion.{KnownVersion}
 use Rattle.sql_open.specs.declared.version.KnownVersion.TheVariants.{One, Two}
 use Rattle.desk_store.specs.Joins.{AreAfter, IsAsItWas, IsDeskIfOpen, LeavesDesk}
 use Rattle.desk_store.specs.Cache.{AreCallersOf, IsCacheOf, IsValidIfAny, IsValid, IsRecordOf, StandsIfOpen, valid_after}
-use Rattle.desk_store.specs.Caching.{Finds, LeavesNext, Performs}
+use Rattle.desk_store.specs.Caching.{Finds, LeavesNext, Performs, only_reply}
+use Rattle.desk_store.proofs.DeskReadLemmas.{always}
 use Rattle.desk_store.specs.TableReads.{HoldsOfDesk}
 use Rattle.desk_words.specs.declared.caller.Caller.{Caller}
 use Rattle.meeting_core.specs.KeyHolders.{caller_with}
+use Rattle.meeting_core.specs.Step.{decided, stepped}
 use Rattle.vocabulary.specs.Names.{name_cmp}
 use Rattle.desk_store.specs.declared.cache.Cache.{Cache}
 use Rattle.desk_store.specs.declared.cache.CachedRecord.{CachedRecord}
@@ -134,6 +138,9 @@ records_still_valid office change was now false is same none records = none refl
 
 -- ---- what a desk that serves leaves
 
+pub if_some : {X : Type 0} (P : X → Type 0) (o : Option X) (x : X) → o ≡ Some x → IfSome o P → P x
+if_some P o x is h = subst (λ o. IfSome o P) is h
+
 module _ {S : Type 0} (g : store.Ghosts S) where
   -- a call that failed was not made
   pub not_performed : {T : Type 0} (a b : Held S) (call : Call) (r : Result T Failure) (IsShown : Reply → T → Type 0) → IsErr r → LeavesDesk g None a b → b.in_transaction ≡ false → LeavesNext g a b (AreAfter (state g a) call) → Performs g a b call r IsShown
@@ -188,6 +195,36 @@ module _ {S : Type 0} (g : store.Ghosts S) where
           | inr after ↦ inr (leaves.was_open (then.leaves.was_reliable clean) after.0, λ office stands. after.1 office (stands_then clean office stands))
         ];
       }
+
+  -- a reply from the cache is that of the call, and all stays as it is
+  pub performed_at_once : {T : Type 0} (a : Held S) (cache : Cache) (call : Call) (r : Result T Failure) (reply : Reply) (IsShown : Reply → T → Type 0) → IsValid g a cache
+      → ((office : OfficeLists) → IsCacheOf office cache → IsTrue (is_office office) → decided office call ≡ only_reply reply) → IfOk r (IsShown reply) → Performs g a a call r IsShown
+  performed_at_once a cache call r reply IsShown valid decides shown =
+      let s = state g a in
+      let answer : HasCleanDisk s → (office : OfficeLists) → Stands s office → decided office call ≡ only_reply reply = λ clean office stands. decides office (valid.agrees clean office stands) stands.preserved in
+      let step : HasCleanDisk s → (office : OfficeLists) → Stands s office → office ≡ stepped office call = λ clean office stands. ap (λ (a : Answer Change). applied_if_any office a.change) (sym (answer clean office stands)) in
+      record {
+        done = λ clean office stands. subst (λ x. IfOk r (IsShown x)) (ap (λ (a : Answer Change). a.reply) (sym (answer clean office stands))) shown;
+        declares = λ clean office stands. always r refl;
+        leaves = record {
+          was_reliable = λ clean. clean;
+          was_open = λ clean is_open. is_open;
+          closes = λ clean was_open. inl was_open;
+          counts = omega (arith);
+          stands = λ clean is_open office stands. made_or_not r office (step clean office stands) stands;
+        };
+        ended = valid.answered.ended;
+        stays_open = λ clean. always r (valid.answered.is_open clean);
+        settled = λ clean. always r (valid.answered.settled clean);
+        whole = λ clean office stands. always r (subst (LeavesWhole s) (step clean office stands) (valid.answered.whole clean office stands));
+        still = λ clean office stands none. let is_open = valid.answered.is_open clean in
+            always r (record { was_open = is_open; is_open = is_open; now_is = refl; committed_is = refl; mode = valid.answered.ended }, record { changes = refl; last_rowid = refl });
+        crash = λ clean db may. inl may;
+      }
+    where
+      made_or_not : {T : Type 0} (r : Result T Failure) (office : OfficeLists) → office ≡ stepped office call → Stands (state g a) office → Stands (state g a) (office_after office (made_by r call))
+      made_or_not (Ok x) office is stands = subst (Stands (state g a)) is stands
+      made_or_not (Err e) office is stands = stands
 
   -- what is not found leaves no more than it is
   pub not_found : {X : Type 0} (a b : Held S) (r : Result X Failure) (IsSo : OfficeLists → X → Type 0) → IsErr r → LeavesDesk g None a b → b.in_transaction ≡ false → (IsDeskIfOpen (state g a) → Survives (state g a) (state g b) (λ _. ⊥)) → Finds g a b r IsSo
