@@ -3,6 +3,7 @@
 
 mod appointment;
 mod failure;
+mod last_notice;
 pub mod laws;
 mod mine;
 mod notice;
@@ -12,4 +13,5 @@ mod shown;
 
 pub use desk_words::{Failure, Reply};
 pub use failure::failure_text;
-pub use reply::{reply_text, reply_text_in};
+pub use last_notice::LastNotice;
+pub use reply::{ReplyText, reply_text, reply_text_by, reply_text_in};

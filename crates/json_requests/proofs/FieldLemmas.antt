@@ -1,5 +1,5 @@
 -- What stands at some names in an object, as its members go in one after another.
-use Rattle.std.proofs.Common.{◌≡◌, ℕ, zero, suc, ◌+◌, ◌-◌, ◌<◌, ◌≤◌, List, [], ◌∷◌, map, length, replicate, set, take, Bool, true, false, cond, Option, Some, None, option_map, Result, Ok, Err, Ordering, Less, Equal, Greater, nat_cmp, Bor, Global, bytes_eq, true≢false, refl, sym, ap, ◌∙◌, subst, arith}
+use Rattle.std.proofs.Common.{◌≡◌, ℕ, zero, suc, ◌+◌, ◌-◌, ◌<◌, ◌≤◌, List, [], ◌∷◌, map, length, replicate, set, take, get_or, Bool, true, false, cond, Option, Some, None, option_map, Result, Ok, Err, Ordering, Less, Equal, Greater, nat_cmp, Bor, Global, bytes_eq, true≢false, refl, sym, ap, ◌∙◌, subst, arith}
 use Rattle.std.specs.Prelude.{◌&&◌, ◌||◌, not, slice_set, IsErrAnd}
 use Rattle.std.specs.Cmp.Lexicographic.{slice_cmp}
 use Rattle.std.specs.List.{position_from}
@@ -143,6 +143,31 @@ module _ (k : List ℕ) (d : Data) (found : Members) where
 asked-place : (k : List ℕ) (names : List (Bor (List ℕ))) (from place : ℕ) → position_from (λ (own : Bor (List ℕ)). bytes_eq own.now k) from names ≡ Some place → is_asked (texts names) k ≡ true
 asked-place k [] from place at = cc
 asked-place k (n ∷ names) from place at = asked_at k (data_of json.null) no_members (bytes_eq n.now k) n names from place at (λ later. asked-place k names (from + 1) place later)
+
+or_true : (b : Bool) → (b || true) ≡ true
+or_true true = refl
+or_true false = refl
+
+asked-there : (names : List (Bor (List ℕ))) (i : ℕ) (k : List ℕ) (d : Bor (List ℕ)) → i < length names → bytes_eq (get_or names i d).now k ≡ true → is_asked (texts names) k ≡ true
+asked-there [] i k d lt same = absurd (omega (arith, lt))
+asked-there (n ∷ names) zero k d lt same = ap (λ b. b || is_asked (texts names) k) same
+asked-there (n ∷ names) (suc i) k d lt same = ap (λ b. bytes_eq n.now k || b) (asked-there names i k d (omega (arith, lt)) same) ∙ or_true (bytes_eq n.now k)
+
+passed : (b : Bool) (n : Bor (List ℕ)) (names : List (Bor (List ℕ))) (k : List ℕ) (from i : ℕ) (rest : Option ℕ) → bytes_eq n.now k ≡ b → is_asked (texts names) n.now ≡ false → is_asked (texts names) k ≡ true
+    → rest ≡ Some (from + 1 + i) → cond b (Some from) rest ≡ Some (from + suc i)
+passed true n names k from i rest same apart asked later =
+    absurd (true≢false (sym asked ∙ ap (is_asked (texts names)) (sym ((bytes_eq-Decides n.now k).0 same)) ∙ apart))
+passed false n names k from i rest same apart asked later = later ∙ ap Some (omega arith)
+
+-- where names differ, a name has its first place where it stands
+pub first-there : (names : List (Bor (List ℕ))) (from i : ℕ) (k : List ℕ) (d : Bor (List ℕ)) → all_differ (texts names) ≡ true → i < length names → bytes_eq (get_or names i d).now k ≡ true
+    → position_from (λ (own : Bor (List ℕ)). bytes_eq own.now k) from names ≡ Some (from + i)
+first-there [] from i k d differ lt same = absurd (omega (arith, lt))
+first-there (n ∷ names) from zero k d differ lt same = rw same (ap Some (omega arith))
+first-there (n ∷ names) from (suc i) k d differ lt same =
+    let both = and_parts (not (is_asked (texts names) n.now)) (all_differ (texts names)) differ in
+    let less : i < length names = omega (arith, lt) in
+    passed (bytes_eq n.now k) n names k from i _ refl (not_false _ both.0) (asked-there names i k d less same) (first-there names (from + 1) i k d both.1 less same)
 
 none_at : (k : List ℕ) (b : Bool) (names : List (Bor (List ℕ))) (from : ℕ)
     → cond b (Some from) (position_from (λ (own : Bor (List ℕ)). bytes_eq own.now k) (from + 1) names) ≡ None

@@ -6,5 +6,6 @@ mod JsonBodyLemmas
 mod JsonLawLemmas
 mod JsonReadUpTo
 mod NumberLemmas
+mod PlainLemmas
 mod RouteLemmas
 mod TextFieldLemmas

@@ -89,7 +89,7 @@ module _ (names : List (List ℕ)) where
   of_tokens (Token.bad ∷ ts) = other Token.bad ts (λ e. cc)
 
   -- a text says what the object says that its tokens are, and no more
-  text-fields : (text : List ℕ) → fields_from names (read text) ≡ option_and_then ended (object_read names (tokens text))
+  pub text-fields : (text : List ℕ) → fields_from names (read text) ≡ option_and_then ended (object_read names (tokens text))
   text-fields text = of_tokens (tokens text)
 
   pub text-none : (text : List ℕ) → object_read names (tokens text) ≡ None → fields_from names (read text) ≡ None

@@ -7,6 +7,7 @@ pub mod JsonFields
 pub mod KeyBodies
 pub mod MemberFields
 pub mod ParsedBodies
+pub mod PlainBodies
 pub mod PollBodies
 pub mod PresenceBodies
 pub mod RefusalResults

@@ -33,6 +33,16 @@ pub(crate) fn no_values<'a>() -> Fields<'a>
     [None, None, None, None, None, None]
 }
 
+/// Drops the arrays and objects among values. No other value owns memory.
+#[inline(always)]
+pub(crate) fn drop_owners(values: &mut Fields<'_>) {
+    for value in values.iter_mut() {
+        if let Some(Value::Array(_) | Value::Object(_)) = value {
+            *value = None;
+        }
+    }
+}
+
 /// What stands there, if anything does.
 pub(crate) fn at<'v, 'a>(place: &'v Option<Value<'a>>) -> Option<&'v Value<'a>>
     ensures { json_at result ≡ option_map view place.now }
@@ -40,8 +50,9 @@ pub(crate) fn at<'v, 'a>(place: &'v Option<Value<'a>>) -> Option<&'v Value<'a>>
     place.as_ref()
 }
 
-/// The place of a name among those that are asked for.
-fn place_of(names: &[&str], name: &str) -> Option<usize>
+/// The first place of a name among those that are asked for.
+#[inline(never)]
+fn first_place(names: &[&str], name: &str) -> Option<usize>
     ensures first { result
         ≡ position_from (λ (own : Bor (List ℕ)). bytes_eq own.now name.now) 0 names.now }
     ensures bound { IfSome result (λ place. place < length names.now) }
@@ -49,8 +60,23 @@ fn place_of(names: &[&str], name: &str) -> Option<usize>
     names.iter().position(|own| *own == name)
 }
 
+/// The place of a name among those that are asked for. Most bodies have their fields in the order
+/// in which they are asked for, so the place that is expected is looked at first.
+fn place_of(names: &[&str], expected: usize, name: &str) -> Option<usize>
+    requires { all_differ (texts names.now) ≡ true }
+    ensures first { result
+        ≡ position_from (λ (own : Bor (List ℕ)). bytes_eq own.now name.now) 0 names.now }
+    ensures bound { IfSome result (λ place. place < length names.now) }
+{
+    if expected < names.len() && names[expected] == name {
+        return Some(expected);
+    }
+    first_place(names, name)
+}
+
 /// Puts a value in a place.
-fn put<'a>(fields: &mut Fields<'a>, place: usize, value: Value<'a>)
+#[inline(always)]
+pub(crate) fn put<'a>(fields: &mut Fields<'a>, place: usize, value: Value<'a>)
     requires { place < MOST_FIELDS }
     ensures { fields.new ≡ slice_set fields.old place (Some value.entry) }
 {
@@ -103,10 +129,14 @@ fn read_members<'a>(
     ensures { BodyAgrees (λ _. (fields_view (take (length names.now) fields.new), reader.new)) result
         (fields_read (texts names.now) reader.old) }
 {
+    let mut expected = 0;
     while let Some(name) = next_name(reader)? {
         let value = next_value(alloc, reader)?;
-        match place_of(names, name) {
-            Some(place) => put(fields, place, value),
+        match place_of(names, expected, name) {
+            Some(place) => {
+                put(fields, place, value);
+                expected = place + 1;
+            }
             None => return Err(BodyError::Unreadable),
         }
     }

@@ -17,6 +17,7 @@ mod keys;
 pub mod laws;
 mod number;
 mod place;
+mod plain;
 mod poll;
 mod presence;
 mod register;

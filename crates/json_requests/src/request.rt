@@ -6,6 +6,7 @@ ghost use Rattle.json_requests.specs.MemberFields.{all_differ, texts};
 ghost use Rattle.json_requests.specs.declared.fields.TheConstants.{MOST_FIELDS};
 ghost use Rattle.json_requests.specs.Bodies.{read_by};
 ghost use Rattle.json_requests.specs.ParsedBodies.{BodyAgrees};
+ghost use Rattle.json_requests.specs.PlainBodies.{all_plain};
 ghost use Rattle.json_requests.specs.RefusalResults.{AskAgrees, or_unreadable};
 ghost use Rattle.json_requests.specs.Requests.{asked_in, asked_on_route, is_bodiless, request_of, route_fields};
 ghost use Rattle.json_requests.specs.Verbs.{office_fields, office_way, party_fields, party_way};
@@ -15,7 +16,7 @@ use crate::ask::{Ask, BodyError};
 use crate::body::read_fields;
 use crate::call::{CALL, call};
 use crate::closed::{CLOSED, closed};
-use crate::fields::no_values;
+use crate::fields::{drop_owners, no_values};
 use crate::keys::{KEYS, keys};
 use crate::poll::{CAST, ORDER, POLL, cast, close, declare, demand, instructed, order, start};
 use crate::presence::{ADJOURN, AUTHORISE, PRESENCE, adjourn, authorise, presence};
@@ -25,6 +26,7 @@ use crate::verb::{OfficeVerb, PartyVerb};
 use desk_words::{DeskRequest, OfficeRequest, PartyRequest, Refusal, Request};
 use json::{Scratch, Value};
 use std::alloc::Global;
+use std::mem::ManuallyDrop;
 
 const ROUTE: Ask = Ask::Refused(Refusal::Route);
 
@@ -74,6 +76,7 @@ impl OfficeVerb {
     fn fields(self) -> &'static [&'static str]
         ensures few { length result.now ≤ MOST_FIELDS }
         ensures differ { all_differ (texts result.now) ≡ true }
+        ensures plain { all_plain (texts result.now) ≡ true }
         ensures value { texts result.now ≡ office_fields self }
     {
         match self {
@@ -92,6 +95,7 @@ impl PartyVerb {
     fn fields(self) -> &'static [&'static str]
         ensures few { length result.now ≤ MOST_FIELDS }
         ensures differ { all_differ (texts result.now) ≡ true }
+        ensures plain { all_plain (texts result.now) ≡ true }
         ensures value { texts result.now ≡ party_fields self }
     {
         match self {
@@ -110,6 +114,7 @@ impl Route {
     fn fields(&self) -> &'static [&'static str]
         ensures few { length result.now ≤ MOST_FIELDS }
         ensures differ { all_differ (texts result.now) ≡ true }
+        ensures plain { all_plain (texts result.now) ≡ true }
         ensures value { texts result.now ≡ route_fields self.now }
     {
         match self {
@@ -162,7 +167,11 @@ impl Route {
         let names = self.fields();
         let mut values = no_values();
         read_fields(alloc, scratch, names, &mut values, body)?;
-        self.asked_in(alloc, &values[..names.len()])
+        let asked = self.asked_in(alloc, &values[..names.len()]);
+        // The other values own no memory, and a drop would look at each of them.
+        drop_owners(&mut values);
+        let _ = ManuallyDrop::new(values);
+        asked
     }
 
     /// What is asked on a route, as a body says it that may be no text.

@@ -144,6 +144,7 @@ impl LineReader {
 
     /// The place of the first line feed among the pending bytes. The bytes before it are searched
     /// once.
+    #[inline(always)]
     fn find_feed(&mut self) -> Option<usize>
         ensures place { MatchOption result (feed_place self.old.pending ≡ length self.old.pending)
             (λ place. (place ≡ feed_place self.old.pending) × (place < length self.old.pending)) }

@@ -5,6 +5,7 @@ ghost use Rattle.line_reader.specs.Lines.{is_feed, feed_place, without_return};
 use memchr::memchr;
 
 /// The place of the first line feed. The bytes before `searched` are known to hold none.
+#[inline(always)]
 pub fn find_feed(bytes: &[u8], searched: usize) -> Option<usize>
     requires { searched ≤ feed_place bytes.now }
     ensures { MatchOption result (feed_place bytes.now ≡ length bytes.now)
@@ -17,8 +18,20 @@ pub fn find_feed(bytes: &[u8], searched: usize) -> Option<usize>
     }
 }
 
-/// The place of the first line feed.
+/// The place of the first line feed. One that stands first needs no search.
+#[inline(always)]
 fn first_feed(bytes: &[u8]) -> Option<usize>
+    ensures { result ≡ position is_feed bytes.now }
+{
+    match bytes {
+        [b'\n', ..] => Some(0),
+        _ => search_feed(bytes),
+    }
+}
+
+/// The same, by a search.
+#[inline(never)]
+fn search_feed(bytes: &[u8]) -> Option<usize>
     ensures { result ≡ position is_feed bytes.now }
 {
     memchr(b'\n', bytes)

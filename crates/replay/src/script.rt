@@ -21,8 +21,8 @@ use crate::gathered::Gathered;
 use crate::line::{Scratch, call_of};
 use any_office::Office;
 use byte_io::{DeviceError, Sink, Source};
-use desk_words::{Failure, Refusal, Reply};
-use json_replies::reply_text_in;
+use desk_words::{Boxed, Failure, Refusal, Reply};
+use json_replies::{LastNotice, ReplyText, reply_text_by, reply_text_in};
 use json_requests::Ask;
 use line_reader::{LineReader, NextLine, ReadFault};
 use meeting_core::Book;
@@ -68,6 +68,8 @@ struct Rooms {
     scratch: Scratch,
     /// For the text of an answer.
     text: Vec<u8>,
+    /// The last notice that was an answer, which mostly is the next one too.
+    last: Option<Boxed<LastNotice>>,
 }
 
 impl Rooms {
@@ -77,12 +79,24 @@ impl Rooms {
             alloc,
             scratch: Scratch::new(alloc),
             text: Vec::new(alloc),
+            last: None,
         }
     }
 
     /// The room for the text of an answer, which is none until it is given back.
     fn take_text(&mut self) -> Vec<u8> {
         replace(&mut self.text, Vec::new(self.alloc))
+    }
+
+    /// The text of an answer. A notice takes the place of the one before.
+    fn remember(&mut self, shown: ReplyText) -> Vec<u8>
+        ensures { result ≡ shown.text }
+    {
+        let ReplyText { text, notice } = shown;
+        if let Some(notice) = notice {
+            self.last = Some(notice);
+        }
+        text
     }
 
     /// Gives the room of a text back, if it has any.
@@ -100,6 +114,25 @@ fn reply_line(room: Vec<u8>, reply: &Reply) -> Result<Vec<u8>, AllocError>
     let mut text = reply_text_in(room, reply)?;
     text.push(b'\n')?;
     Ok(text)
+}
+
+/// The line that gives a reply, as `reply_line` does. The last notice again gives the same text, and
+/// another one is handed on with its text.
+#[inline(always)]
+fn line_by(
+    alloc: Global,
+    room: Vec<u8>,
+    last: &Option<Boxed<LastNotice>>,
+    reply: &Reply,
+) -> Result<ReplyText, AllocError>
+    ensures { IfOk result (λ shown. shown.text.items ≡ as_line (reply_bytes reply.now)) }
+{
+    let ReplyText {
+        text: mut line,
+        notice,
+    } = reply_text_by(alloc, room, last, reply)?;
+    line.push(b'\n')?;
+    Ok(ReplyText { text: line, notice })
 }
 
 /// The line that tells of a failure. It takes no memory, since there may be none left.
@@ -135,7 +168,11 @@ fn answer<O: Office>(rooms: &mut Rooms, office: &mut O, line: &[u8]) -> Result<V
     match call_of(rooms.alloc, &mut rooms.scratch, line) {
         Ok(call) => {
             let room = rooms.take_text();
-            office.perform(call, |reply| reply_line(room, reply))
+            let (alloc, last) = (rooms.alloc, &rooms.last);
+            match office.perform(call, |reply| line_by(alloc, room, last, reply)) {
+                Ok(shown) => Ok(rooms.remember(shown)),
+                Err(failure) => Err(failure),
+            }
         }
         Err(Ask::Refused(refusal)) => refusal_line(rooms.alloc, refusal),
         Err(Ask::Memory) => Err(Failure::Memory),

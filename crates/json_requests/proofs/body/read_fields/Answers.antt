@@ -15,4 +15,4 @@ returns-then-is_empty c =
 pub returns-else-is_empty : goal.returns-else-is_empty
 returns-else-is_empty c =
     let same = body_of-bytes c.args.body.now (sym (c.is_empty.ensures ∙ ap (λ (bytes : List ℕ). length bytes == 0) c.as_bytes.ensures.value) ∙ c.if-is_empty.false) ∙ value_of-utf8 c.args.body.now (subst IsUtf8 c.as_bytes.ensures.value c.as_bytes.ensures.utf8) in
-    subst (BodyAgrees _ c.read_text.result) (ap (fields_from (texts c.args.names.now)) (sym same)) c.read_text.ensures
+    subst (BodyAgrees _ c.read_json_text.result) (ap (fields_from (texts c.args.names.now)) (sym same)) c.read_json_text.ensures

@@ -3,20 +3,20 @@ use Rattle.fast_float.specs.Text.{scan}
 use Rattle.serde_json.specs.Find.{as_u64}
 use Rattle.serde_json.specs.Read.{number_of, number_from}
 use Rattle.json_requests.proofs.NumberLemmas.{signed_whole}
-use Rattle.json_requests.proofs.number.whole_number.Goals as goal
+use Rattle.json_requests.proofs.number.any_whole_number.Goals as goal
 
 pub returns-then-has_minus : goal.returns-then-has_minus
 unfolding number_of
 returns-then-has_minus c =
-    let s = c.as_bytes-bytes.result.now in
+    let s = c.args.bytes.now in
     let signed : (get_or s 0 0 == 45) ≡ true = sym c.if-has_minus.ensures.value in
     let read : number_from true (scan (drop 1 s)) ≡ number_of s = rw signed in
-    sym (signed_whole (scan (drop 1 s))) ∙ ap (option_and_then as_u64) read ∙ ap (λ t. option_and_then as_u64 (number_of t)) c.as_bytes-bytes.ensures.value
+    sym (signed_whole (scan (drop 1 s))) ∙ ap (option_and_then as_u64) read
 
 pub returns-else-has_minus : goal.returns-else-has_minus
 unfolding number_of
 returns-else-has_minus c =
-    let s = c.as_bytes-bytes.result.now in
+    let s = c.args.bytes.now in
     let unsigned : (get_or s 0 0 == 45) ≡ false = sym c.if-has_minus.ensures.value in
     let read : number_from false (scan s) ≡ number_of s = rw unsigned in
-    c.whole.ensures ∙ ap (λ p. option_and_then as_u64 (number_from false p)) c.scan.ensures.parts ∙ ap (option_and_then as_u64) read ∙ ap (λ t. option_and_then as_u64 (number_of t)) c.as_bytes-bytes.ensures.value
+    c.whole.ensures ∙ ap (λ p. option_and_then as_u64 (number_from false p)) c.scan.ensures.parts ∙ ap (option_and_then as_u64) read
