@@ -37,7 +37,7 @@ fn open<S: Alter + Drop>(alloc: Global, conn: Connection<S>, asked: &Asked) -> (
     requires rising { HasCleanDisk (state S.Store conn) → RowsRise (state S.Store conn) }
 {
     match sql_open::open_risen(alloc, conn) {
-        Ok((opened, _)) => {
+        Ok(opened) => {
             let mut desk = CachingDesk::of_opened(alloc, opened);
             let answer = ask_office(alloc, &mut desk, asked);
             (answer, desk.close().into_store())

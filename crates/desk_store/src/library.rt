@@ -2,8 +2,8 @@
 //! of the caller's, and the whole book and a party's own things are read.
 ghost use Rattle.std.specs.Prelude.{◌≡◌, ◌≢◌, ◌⊎◌, false, Err, IfErr, IfOk, IsErrAnd, IsTrue, None, OnOk};
 ghost use Rattle.sql_open.specs.Crashes.{LeavesAtMostMoved, LeavesItself};
-ghost use Rattle.sql_open.specs.Opened.{HoldsNothing, IfMadeAs, IsSettled, IsWhyUnopened};
-ghost use Rattle.sql_open.specs.Opened.{KeepsOpenTables, OnDone, StandsFor, StaysOpen};
+ghost use Rattle.sql_open.specs.Opened.{HoldsNothing, IsSettled, IsWhyUnopened};
+ghost use Rattle.sql_open.specs.Opened.{KeepsOpenTables, OnDone, StandsWhole, StaysOpen};
 ghost use Rattle.sql_open.specs.Opened.{SurvivesMaking, WereKnown};
 ghost use Rattle.sql_open.specs.Opening.{HandsBack, IsInNone};
 ghost use Rattle.sql_open.specs.WholeDesk.{LeavesWhole, OpensWhole};
@@ -12,7 +12,6 @@ ghost use Rattle.sql_open.specs.declared.fault.CreateError.TheVariants as creati
 ghost use Rattle.sql_open.specs.declared.fault.OpenFault.TheVariants as opening;
 ghost use Rattle.sql_open.specs.declared.opening.HandedBack.TheVariants as back;
 ghost use Rattle.sql_schema.specs.Tables.{no_schema};
-ghost use Rattle.desk_words.specs.declared.office.OfficeLists.{OfficeLists};
 ghost use Rattle.sqlite.specs.Held.{state};
 ghost use Rattle.sqlite.specs.State.{Survives};
 ghost use Rattle.desk_store.specs.Joins.{IsDeskIfOpen, LeavesDesk};
@@ -89,9 +88,7 @@ impl<S: Alter + Drop> Desk<S> {
     /// nothing that it did not leave before, or, of tables of version 1 alone, those tables moved,
     /// whole of the same office.
     pub fn open(alloc: Global, conn: Connection<S>) -> Result<Desk<S>, (OpenFault, HandedBack<S>)>
-        ensures stands { IfOk result (λ desk. IfMadeAs S.Store conn desk (λ known.
-            (office : OfficeLists)
-            × StandsFor (state S.Store conn) (state S.Store desk) office known)) }
+        ensures stands { IfOk result (λ desk. StandsWhole S.Store conn desk) }
         ensures whole { IfOk result (λ desk. OpensWhole S.Store conn desk) }
         ensures known { IfOk result (λ desk. WereKnown S.Store conn desk) }
         ensures is_open { IfOk result (λ desk. StaysOpen S.Store desk) }
@@ -104,7 +101,7 @@ impl<S: Alter + Drop> Desk<S> {
             → result ≡ Err (opening.Store, back.Connection conn) }
     {
         match sql_open::open(alloc, conn) {
-            Ok((conn, _)) => Ok(Desk { conn, alloc }),
+            Ok(conn) => Ok(Desk { conn, alloc }),
             Err(refused) => Err(refused),
         }
     }

@@ -1,4 +1,2 @@
 pub mod AssembledListLemmas
-pub mod AssembledOfficeLemmas
 pub mod AssembledOrderLemmas
-pub mod GivingLemmas

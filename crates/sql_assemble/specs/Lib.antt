@@ -1,4 +1,2 @@
-pub mod Flat
-pub mod Grouping
 pub mod LoadResults
 pub mod OwnLists

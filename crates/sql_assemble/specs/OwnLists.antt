@@ -1,19 +1,11 @@
 -- The records of one meeting, and the lists that they are.
-use Rattle.std.specs.Prelude.{◌==◌, ℕ, suc, Bool, true, ◌&&◌, List, [], ◌∷◌, ◌++◌, Option}
+use Rattle.std.specs.Prelude.{◌==◌, ℕ, suc, Bool, true, ◌&&◌, List, [], ◌∷◌, Option}
 use Rattle.std.specs.Prelude.{Some, length, nat_le}
 use Rattle.seq.specs.Sorting.{sort_by}
 use Rattle.desk_words.specs.Office.{poll_before}
 use Rattle.desk_words.specs.Registers.{member_before}
 use Rattle.desk_words.specs.declared.limits.TheConstants.{MOST_SESSIONS}
 use Rattle.desk_words.specs.declared.office.MeetingLists.{MeetingLists}
-use Rattle.desk_words.specs.declared.records.Appointment.{Appointment}
-use Rattle.desk_words.specs.declared.records.Authority.{Authority}
-use Rattle.desk_words.specs.declared.records.CastMark.{CastMark}
-use Rattle.desk_words.specs.declared.records.DemandMark.{DemandMark}
-use Rattle.desk_words.specs.declared.records.Ending.{Ending}
-use Rattle.desk_words.specs.declared.records.Poll.{Poll}
-use Rattle.desk_words.specs.declared.records.PresenceMark.{PresenceMark}
-use Rattle.desk_words.specs.declared.records.RegisterRow.{RegisterRow}
 use Rattle.desk_words.specs.declared.records.Resolution.{Resolution}
 use Rattle.desk_words.specs.declared.records.Session.{Session}
 use Rattle.vocabulary.specs.OptionSteps.{◌>>=◌}
@@ -21,22 +13,6 @@ use Rattle.sql_rows.specs.declared.stored_records.MeetingRow.{MeetingRow}
 use Rattle.sql_rows.specs.declared.stored_records.Numbered.{Numbered}
 use Rattle.sql_model.specs.OfficeRecords.{number_before, numbered_from, whole_meeting}
 use Rattle.sql_assemble.specs.declared.own_records.OwnRecords.{OwnRecords}
-
--- a meeting without records
-abbrev pub nothing_own : MeetingRow → OwnRecords
-nothing_own m = record {
-  meeting = m;
-  sessions = [];
-  resolutions = [];
-  register = [];
-  appointments = [];
-  endings = [];
-  authorities = [];
-  presences = [];
-  demands = [];
-  polls = [];
-  casts = [];
-}
 
 -- the lists of a meeting with these further sessions and resolutions
 abbrev pub lists_own_with : OwnRecords → List Session → List Resolution → MeetingLists
@@ -88,43 +64,3 @@ lists_own own = do
   later ← sessions_own own.sessions
   resolutions ← resolutions_own own.resolutions
   Some (lists_own_with own later resolutions)
-
--- a meeting with these records behind its others
-abbrev pub adding_sessions : List (Numbered Session) → OwnRecords → OwnRecords
-adding_sessions its own = record own { sessions = own.sessions ++ its }
-
--- a meeting with these records behind its others
-abbrev pub adding_resolutions : List (Numbered Resolution) → OwnRecords → OwnRecords
-adding_resolutions its own = record own { resolutions = own.resolutions ++ its }
-
--- a meeting with these records behind its others
-abbrev pub adding_register : List RegisterRow → OwnRecords → OwnRecords
-adding_register its own = record own { register = own.register ++ its }
-
--- a meeting with these records behind its others
-abbrev pub adding_appointments : List Appointment → OwnRecords → OwnRecords
-adding_appointments its own = record own { appointments = own.appointments ++ its }
-
--- a meeting with these records behind its others
-abbrev pub adding_endings : List Ending → OwnRecords → OwnRecords
-adding_endings its own = record own { endings = own.endings ++ its }
-
--- a meeting with these records behind its others
-abbrev pub adding_authorities : List Authority → OwnRecords → OwnRecords
-adding_authorities its own = record own { authorities = own.authorities ++ its }
-
--- a meeting with these records behind its others
-abbrev pub adding_presences : List PresenceMark → OwnRecords → OwnRecords
-adding_presences its own = record own { presences = own.presences ++ its }
-
--- a meeting with these records behind its others
-abbrev pub adding_demands : List DemandMark → OwnRecords → OwnRecords
-adding_demands its own = record own { demands = own.demands ++ its }
-
--- a meeting with these records behind its others
-abbrev pub adding_polls : List Poll → OwnRecords → OwnRecords
-adding_polls its own = record own { polls = own.polls ++ its }
-
--- a meeting with these records behind its others
-abbrev pub adding_casts : List CastMark → OwnRecords → OwnRecords
-adding_casts its own = record own { casts = own.casts ++ its }

@@ -49,6 +49,7 @@ impl StoredTable for Keys {
       makes = record { is = refl; alone = refl; plain = (refl, refl); defined = refl; full = refl };
       texts = wide_one (HasTexts keys keys_table) (λ others apart indexes views. record {
         lists = record { is = refl; plain = (refl, refl); unlisted = refl };
+        counts = record { is = refl; plain = (refl, refl); unlisted = refl };
         adds = record { place = 1; is = refl; plain = (refl, refl); there = refl; numbered = refl };
       });
       listed = (refl, refl);

@@ -54,6 +54,7 @@ impl StoredTable for Register {
       makes = record { is = refl; alone = refl; plain = (refl, refl); defined = refl; full = refl };
       texts = wide_one (HasTexts register register_table) (λ others apart indexes views. record {
         lists = record { is = refl; plain = (refl, refl); unlisted = refl };
+        counts = record { is = refl; plain = (refl, refl); unlisted = refl };
         adds = record { place = 6; is = refl; plain = (refl, refl); there = refl; numbered = refl };
       });
       listed = (refl, refl);

@@ -48,6 +48,7 @@ impl StoredTable for Resolutions {
       makes = record { is = refl; alone = refl; plain = (refl, refl); defined = refl; full = refl };
       texts = wide_one (HasTexts resolutions resolutions_table) (λ others apart indexes views. record {
         lists = record { is = refl; plain = (refl, refl); unlisted = refl };
+        counts = record { is = refl; plain = (refl, refl); unlisted = refl };
         adds = record { place = 5; is = refl; plain = (refl, refl); there = refl; numbered = refl };
       });
       listed = (refl, refl);

@@ -186,7 +186,7 @@ fn opened<S: TableFile>(
     ensures error { IfErr result IsUnopened }
 {
     match sql_open::open_risen(alloc, conn) {
-        Ok((opened, _)) => Ok(opened),
+        Ok(opened) => Ok(opened),
         Err((fault, refused)) => {
             give_up(files, name, refused);
             Err(by_open(fault))

@@ -3,6 +3,7 @@ pub mod Adding
 pub mod Asking
 pub mod Commits
 pub mod Copying
+pub mod Counting
 pub mod Deleting
 pub mod Emptying
 pub mod Frames

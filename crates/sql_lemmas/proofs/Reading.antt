@@ -144,19 +144,33 @@ found_records {A} it chooses test same (row ∷ rows) was h =
     go false true e left those x means later = absurd cc
     go false false e left those x means later = later
 
--- a query with parameters that shows all columns of the rows that pass
+-- a query with parameters shows all columns of the rows that pass, in the order of their numbers
+pub shows_passing : {A V : Type 0} (layout : Layout) (items : V → List Row) (it : TableOf A) (tests project : List Term) (names : List (List ℕ)) (sql : List ℕ) (params : Row)
+    → ((s : Schema) → HasTables layout s → AsksAs s sql (sought it.number tests project) names)
+    → given_at [] it.number ≡ None → IsTrue (has_table layout it.number) → ((row : Row) → eval_all project (params ∷ row ∷ []) ≡ columns_of it row)
+    → (old new : State) (r : Result V Error) → IsDeskOf layout old → IfOk r (λ v. Shown sql params old new (items v))
+    → IfOk r (λ v. (items v ≡ map (columns_of it) (filter (passes tests params) (old.now.trees it.number))) × IsUnchanged old new)
+shows_passing layout items it tests project names sql params asks none numbered columns old new (Err e) was h = tt
+shows_passing layout items it tests project names sql params asks none numbered columns old new (Ok v) was h =
+    let of = asks old.now.schema was.schema in
+    let got = reads_as sql params old new old.now.schema refl (Select (record { lets = []; body = sought it.number tests project }) names) of.is of.plain of.unlisted (items v) h in (
+      sought_in_order it.number tests project params old.now.trees none (items v) (was.rising it.number numbered).0 (got.answer Null) ∙ map-same columns (filter (passes tests params) (old.now.trees it.number)),
+      shown_same sql params old new old.now.schema refl of.plain (items v) h,
+    )
+
+-- and so the records that pass
 pub finds : {A V : Type 0} (layout : Layout) (items : V → List Row) (it : TableOf A) (tests project : List Term) (names : List (List ℕ)) (sql : List ℕ) (params : Row) (test : A → Bool)
     → ((s : Schema) → HasTables layout s → AsksAs s sql (sought it.number tests project) names)
     → given_at [] it.number ≡ None → IsTrue (has_table layout it.number) → ((row : Row) → eval_all project (params ∷ row ∷ []) ≡ columns_of it row)
     → ((row : Row) (x : A) → it.means (columns_of it row) ≡ Some x → passes tests params row ≡ test x)
     → (old new : State) (r : Result V Error) → IsDeskOf layout old → IfOk r (λ v. Shown sql params old new (items v))
     → IfOk r (λ v. ((was : List A) → records_in it old.now.trees ≡ Some was → all_meanings it.means (items v) ≡ Some (filter test was)) × IsUnchanged old new)
-finds layout items it tests project names sql params test asks none numbered columns same old new (Err e) was h = tt
-finds layout items it tests project names sql params test asks none numbered columns same old new (Ok v) was h =
-    let of = asks old.now.schema was.schema in
-    let got = reads_as sql params old new old.now.schema refl (Select (record { lets = []; body = sought it.number tests project }) names) of.is of.plain of.unlisted (items v) h in
-    let rows = sought_in_order it.number tests project params old.now.trees none (items v) (was.rising it.number numbered).0 (got.answer Null)
-    ∙ map-same columns (filter (passes tests params) (old.now.trees it.number)) in (
-      λ records known. subst (λ l. all_meanings it.means l ≡ Some (filter test records)) (sym rows) (found_records it (passes tests params) test same (old.now.trees it.number) records known),
-      shown_same sql params old new old.now.schema refl of.plain (items v) h,
-    )
+finds {A} {V} layout items it tests project names sql params test asks none numbered columns same old new r was h = go r (shows_passing layout items it tests project names sql params asks none numbered columns old new r was h)
+  where
+    rows : List Row
+    rows = old.now.trees it.number
+
+    go : (r : Result V Error) → IfOk r (λ v. (items v ≡ map (columns_of it) (filter (passes tests params) rows)) × IsUnchanged old new)
+        → IfOk r (λ v. ((was : List A) → records_in it old.now.trees ≡ Some was → all_meanings it.means (items v) ≡ Some (filter test was)) × IsUnchanged old new)
+    go (Ok v) h = (λ records known. subst (λ l. all_meanings it.means l ≡ Some (filter test records)) (sym h.0) (found_records it (passes tests params) test same rows records known), h.1)
+    go (Err e) h = tt

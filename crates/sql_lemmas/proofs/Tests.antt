@@ -8,6 +8,7 @@ use Rattle.std.specs.Cmp.Lexicographic.{slice_cmp}
 use Rattle.std.specs.Ordering.{nat_cmp, int_cmp}
 use lib.Pointwise.{pointwise}
 use Rattle.std.specs.List.{list_all}
+use Rattle.std.specs.Option.{option_map_or}
 use Rattle.sqlite.specs.declared.types.Value.{Value}
 use Rattle.sqlite.specs.declared.types.Value.TheVariants.{Null, Int, Real, Text, Blob}
 use Rattle.sqlite.specs.Collation.TheVariants.{Binary}
@@ -77,6 +78,25 @@ names_decide Null s m n h k = absurd cc
 names_decide (Int z) s m n h k = absurd cc
 names_decide (Real x) s m n h k = absurd cc
 names_decide (Blob b) s m n h k = absurd cc
+
+-- and so it is whatever the row holds there
+pub whatever_decides : (v : Value) (s n : List ℕ) → meeting_of s ≡ Some n → is_true (binary (Compare Eq Binary) v (Text s)) ≡ option_map_or (λ name. same_name name n) (parsed_of meeting_of v) false
+unfolding binary value_cmp
+whatever_decides (Text t) s n k = go (meeting_of t) refl
+  where
+    apart : meeting_of t ≡ None → same_name t s ≡ false
+    apart none = elim (cases_Bool (same_name t s)) [
+      | inl is ↦ let same : None ≡ Some n = sym none ∙ ap meeting_of (same_name-true t s is) ∙ k in absurd cc
+      | inr other ↦ other
+    ]
+
+    go : (name : Option (List ℕ)) → meeting_of t ≡ name → is_true (binary (Compare Eq Binary) (Text t) (Text s)) ≡ option_map_or (λ name. same_name name n) name false
+    go (Some m) is = names_decide (Text t) s m n is k
+    go None none = truth_is (is_eq (value_cmp (Text t) (Text s))) ∙ text_test t s (value_cmp (Text t) (Text s)) (value_cmp-Text t s) ∙ apart none
+whatever_decides Null s n k = refl
+whatever_decides (Int z) s n k = refl
+whatever_decides (Real x) s n k = refl
+whatever_decides (Blob b) s n k = refl
 
 -- a row is chosen by a key exactly where it has that key, whole
 pub keys_decide : (v : Value) (s m n : List ℕ) → parsed_of key_of v ≡ Some m → key_of s ≡ Some n → is_true (binary (Compare Eq Binary) v (Text s)) ≡ same_name m n

@@ -1,1 +1,2 @@
+pub mod CountedRows
 pub mod StoredNumbers

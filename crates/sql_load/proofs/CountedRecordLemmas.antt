@@ -89,7 +89,7 @@ module _ {V A S : Type 0} (g : store.Ghosts S) (a b : Held S) (rows_in : V → L
 -- ---- how many resolutions there are
 
 -- rows that are numbered on are as many as what they number
-numbered_length : {A : Type 0} (n : ℕ) (rows : List (Numbered A)) (xs : List A) → numbered_from n rows ≡ Some xs → length xs ≡ length rows
+pub numbered_length : {A : Type 0} (n : ℕ) (rows : List (Numbered A)) (xs : List A) → numbered_from n rows ≡ Some xs → length xs ≡ length rows
 numbered_length n [] xs h = let none : [] ≡ xs = the_same h in ap length (sym none)
 numbered_length n (r ∷ rest) xs h =
     let here = bound (guard (r.number == n)) _ xs h in

@@ -19,7 +19,8 @@ use Rattle.sql_rows.specs.declared.stored_records.InMeeting.{InMeeting}
 use Rattle.sql_rows.proofs.RowMeaningLemmas.{bound}
 use Rattle.vocabulary.specs.Names.{same_name}
 use Rattle.sql_schema.specs.Statements.{ChangesNothing, FindsRecords, IsRead, TableOf, records_in}
-use Rattle.sql_queries.specs.CountedRecords.{CountsRecords, most}
+use Rattle.sql_lemmas.specs.CountedRows.{most}
+use Rattle.sql_queries.specs.CountedRecords.{CountsRecords}
 use Rattle.sql_model.specs.OfficeRecords.{FlatLists, flat_in, of_meeting, office_of_records}
 use Rattle.sql_model.proofs.ListChanges.{ListOf}
 use Rattle.sql_model.proofs.ModelOfficeLemmas.{AreOf, are_of}

@@ -1,7 +1,11 @@
 pub mod CountedRecordLemmas
 pub mod FoundRecordLemmas
+pub mod JudgedLemmas
+pub mod MeetingReadLemmas
+pub mod MeetingRowLemmas
 pub mod NamedMeetingLemmas
-pub mod PartLemmas
+pub mod OrderedMeetingLemmas
 pub mod PublicRecordLemmas
 pub mod ReadingLemmas
 pub mod StoredOfficeLemmas
+pub mod StoredRowLemmas

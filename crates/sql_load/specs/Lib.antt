@@ -1,4 +1,6 @@
-pub mod MeetingParts
+pub mod Judging
+pub mod MeetingReading
 pub mod MeetingRecords
+pub mod StoredRows
 pub mod TableLookUps
 pub mod WholeReading

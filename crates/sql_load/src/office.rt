@@ -1,23 +1,61 @@
-//! The office that the tables are.
+//! The office that the tables hold.
 ghost use Rattle.std.specs.Prelude.{◌≡◌};
+ghost use Rattle.desk_words.specs.SortedLists.{is_day_list, is_key_list};
+ghost use Rattle.sql_load.specs.MeetingReading.{days_in, keys_in};
+ghost use Rattle.sql_load.specs.TableLookUps.{HoldsOfStoredOffice};
 ghost use Rattle.sql_load.specs.WholeReading.{IsReading};
-ghost use Rattle.sql_model.specs.OfficeRecords.{office_in};
-ghost use Rattle.desk_words.specs.Office.{is_office};
 
-use crate::flat::read_flat;
-use desk_words::OfficeLists;
-use sql_assemble::{LoadError, office_from};
+use crate::emptied::read_left;
+use crate::meeting_lists::read_meetings;
+use crate::table::listing;
+use desk_words::{DayList, KeyRows, OfficeLists};
+use sql_assemble::{LoadError, day_list, key_rows};
+use sql_desk_tables::closed::ClosedDays;
+use sql_desk_tables::keys::Keys;
 use sqlite::{Alter, Transaction};
 use std::alloc::Global;
 
-/// The office that the tables hold. The fault is `NoOffice` only where they hold none.
+/// The keys by which callers are known. The fault is `NoOffice` only where they are no such list.
+pub(crate) fn keys_of<S: Alter>(
+    tx: &mut Transaction<'_, S>,
+    alloc: Global,
+) -> Result<KeyRows, LoadError>
+    ensures same_reference { tx.new.conn.ghost_name ≡ tx.old.conn.ghost_name }
+    ensures read { IsReading S.Store tx.old.conn.now tx.new.conn.now is_key_list result keys_in }
+{
+    let rows = listing::<Keys, S>(tx, alloc)?;
+    key_rows(rows)
+}
+
+/// The days that the office has closed (section 1173). The fault is `NoOffice` only where they are no
+/// such list.
+pub(crate) fn days_of<S: Alter>(
+    tx: &mut Transaction<'_, S>,
+    alloc: Global,
+) -> Result<DayList, LoadError>
+    ensures same_reference { tx.new.conn.ghost_name ≡ tx.old.conn.ghost_name }
+    ensures read { IsReading S.Store tx.old.conn.now tx.new.conn.now is_day_list result days_in }
+{
+    let days = listing::<ClosedDays, S>(tx, alloc)?;
+    day_list(days)
+}
+
+/// The office that the tables hold, whole. Of tables that hold none no clause says what it is.
 pub fn read_office<S: Alter>(
     tx: &mut Transaction<'_, S>,
     alloc: Global,
 ) -> Result<OfficeLists, LoadError>
     ensures same_reference { tx.new.conn.ghost_name ≡ tx.old.conn.ghost_name }
-    ensures read { IsReading S.Store tx.old.conn.now tx.new.conn.now is_office result office_in }
+    ensures holds { HoldsOfStoredOffice S.Store tx.old.conn.now tx.new.conn.now result
+        (λ office read. read ≡ office) }
 {
-    let flat = read_flat(tx, alloc)?;
-    office_from(alloc, flat)
+    read_left(tx)?;
+    let keys = keys_of(tx, alloc)?;
+    let closed = days_of(tx, alloc)?;
+    let meetings = read_meetings(tx, alloc)?;
+    Ok(OfficeLists {
+        keys,
+        closed,
+        meetings,
+    })
 }

@@ -12,7 +12,7 @@ use Rattle.sql_rows.proofs.RowMeaningLemmas.{bound}
 use Rattle.sql_model.specs.OfficeRecords.{FlatLists, lists_of, lists_of_all}
 use Rattle.sql_model.proofs.ModelOfficeLemmas.{AreOf}
 use Rattle.desk_words.proofs.OfficeFacts.{office_facts}
-use Rattle.sql_queries.specs.CountedRecords.{most}
+use Rattle.sql_lemmas.specs.CountedRows.{most}
 use Rattle.sql_load.proofs.FoundRecordLemmas.{first_passing}
 use Rattle.sql_load.proofs.NamedMeetingLemmas.{IsFoundAs, has_name, meeting_found}
 

@@ -28,7 +28,7 @@ use Rattle.sql_model.specs.OfficeRecords.{FlatLists}
 use Rattle.sql_model.proofs.ListChanges.{list_of}
 use Rattle.sql_model.proofs.ModelOfficeLemmas.{AreOf}
 use Rattle.sql_model.proofs.Names.ListName.{Casts}
-use Rattle.sql_queries.specs.CountedRecords.{most}
+use Rattle.sql_lemmas.specs.CountedRows.{most}
 use Rattle.sql_load.specs.MeetingRecords.{without_meeting}
 use Rattle.sql_load.proofs.FoundRecordLemmas.{received_so}
 use Rattle.sql_load_party.proofs.LoadedPartyRowLemmas.{both_pass}

@@ -41,6 +41,7 @@ impl FiledTable for Authorities {
         makes = record { is = refl; alone = refl; plain = (refl, refl); defined = refl; full = refl };
         texts = wide_one (HasTexts authorities authorities_table) (λ others apart indexes views. record {
           lists = record { is = refl; plain = (refl, refl); unlisted = refl };
+          counts = record { is = refl; plain = (refl, refl); unlisted = refl };
           adds = record { place = 9; is = refl; plain = (refl, refl); there = refl; numbered = refl };
         });
         listed = (refl, refl);

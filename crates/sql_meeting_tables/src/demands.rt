@@ -45,6 +45,7 @@ impl FiledTable for Demands {
         makes = record { is = refl; alone = refl; plain = (refl, refl); defined = refl; full = refl };
         texts = wide (HasTexts demands demands_table) (λ others apart indexes views. record {
           lists = record { is = refl; plain = (refl, refl); unlisted = refl };
+          counts = record { is = refl; plain = (refl, refl); unlisted = refl };
           adds = record { place = 16; is = refl; plain = (refl, refl); there = refl; numbered = refl };
         });
         listed = (refl, refl);

@@ -41,6 +41,7 @@ impl FiledTable for Endings {
         makes = record { is = refl; alone = refl; plain = (refl, refl); defined = refl; full = refl };
         texts = wide_one (HasTexts endings endings_table) (λ others apart indexes views. record {
           lists = record { is = refl; plain = (refl, refl); unlisted = refl };
+          counts = record { is = refl; plain = (refl, refl); unlisted = refl };
           adds = record { place = 8; is = refl; plain = (refl, refl); there = refl; numbered = refl };
         });
         listed = (refl, refl);

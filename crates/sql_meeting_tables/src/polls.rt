@@ -51,6 +51,7 @@ impl StoredTable for Polls {
       makes = record { is = refl; alone = refl; plain = (refl, refl); defined = refl; full = refl };
       texts = wide (HasTexts polls polls_table) (λ others apart indexes views. record {
         lists = record { is = refl; plain = (refl, refl); unlisted = refl };
+        counts = record { is = refl; plain = (refl, refl); unlisted = refl };
         adds = record { place = 17; is = refl; plain = (refl, refl); there = refl; numbered = refl };
       });
       listed = (refl, refl);

@@ -45,6 +45,7 @@ impl FiledTable for Presences {
         makes = record { is = refl; alone = refl; plain = (refl, refl); defined = refl; full = refl };
         texts = wide (HasTexts presences presences_table) (λ others apart indexes views. record {
           lists = record { is = refl; plain = (refl, refl); unlisted = refl };
+          counts = record { is = refl; plain = (refl, refl); unlisted = refl };
           adds = record { place = 15; is = refl; plain = (refl, refl); there = refl; numbered = refl };
         });
         listed = (refl, refl);

@@ -8,7 +8,6 @@ pub mod OpenedFoundLemmas
 pub mod OpenedPreservedLemmas
 pub mod OpenedMoveLemmas
 pub mod OpeningLemmas
-pub mod OrderedOffice
 pub mod ReopeningLemmas
 pub mod RisingLemmas
 pub mod WholeLemmas

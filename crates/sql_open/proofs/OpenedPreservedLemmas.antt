@@ -1,12 +1,11 @@
 -- What is known of tables once their version was judged, whichever it is.
-use Rattle.std.proofs.Common.{◌≡◌, ◌≢◌, ◌⊎◌, true, [], Some, IsTrue, refl, Ok, Err, Result, IfErr, IfOk, OnErr, OnOk, sym, ap, subst, ◌∙◌, inl, inr, arith}
+use Rattle.std.proofs.Common.{◌≡◌, ◌≢◌, ◌⊎◌, true, [], Some, IsTrue, refl, Ok, Err, Result, IfErr, OnErr, OnOk, sym, ap, subst, ◌∙◌, inl, inr, arith}
 use Rattle.sqlite.specs.Effect.{Database}
 use Rattle.sqlite.specs.Held.{Held, state}
 use Rattle.sqlite.specs.State.{State, HasCleanDisk, IsLive, Survives}
 use Rattle.sqlite.specs.Tree.{Trees}
 use Rattle.sqlite.proofs.StateLemmas.{survives_then}
 use Rattle.sqlite_trees.specs.declared.store.Store as store
-use Rattle.desk_words.specs.declared.office.OfficeLists.{OfficeLists}
 use Rattle.sql_model.specs.MigratedRecords.{IsMoved}
 use Rattle.sql_model.specs.OfficeRecords.{are_left_empty, flat_one, flat_two, office_one}
 use Rattle.sql_model.specs.Standing.{HasNoVersion, IsVersion, IsVersionOf, one}
@@ -76,34 +75,34 @@ module _ {S : Type 0} (g : store.Ghosts S) (known : KnownVersion) (old reported 
   as_reported : HasCleanDisk (state g new) → IsTrue (state g reported).is_open → (state g reported).now ≡ (state g old).now
   as_reported clean is_open = (same (early clean) is_open).1
 
-  abbrev pub StandsIfReturned : OfficeLists → Type 0
-  StandsIfReturned office = IsMadeAs known (state g reported).now.schema → IsVersionOf (edition_of known) (state g reported) → StandsFor (state g reported) (state g new) office known
+  abbrev pub StandsIfReturned : Type 0
+  StandsIfReturned = IsMadeAs known (state g reported).now.schema → IsVersionOf (edition_of known) (state g reported) → StandsFor (state g reported) (state g new) known
 
-  stands_from : HasCleanDisk (state g new) → IsTrue (state g reported).is_open → (office : OfficeLists) → StandsIfReturned office → (k : KnownVersion) → IsMadeAs k (state g old).now.schema → IsVersionOf (edition_of k) (state g old)
-      → StandsFor (state g old) (state g new) office k
-  stands_from clean is_open office stands k made version =
+  stands_from : HasCleanDisk (state g new) → IsTrue (state g reported).is_open → StandsIfReturned → (k : KnownVersion) → IsMadeAs k (state g old).now.schema → IsVersionOf (edition_of k) (state g old)
+      → StandsFor (state g old) (state g new) k
+  stands_from clean is_open stands k made version =
       let there_is = as_reported clean is_open in
       let here = noted (early clean) (notes_so k (state g old).now.schema made) in
       let is : known ≡ k = same_version known k (state g old) here version in
       let made_here : IsMadeAs known (state g old).now.schema = subst (λ j. IsMadeAs j (state g old).now.schema) (sym is) made in
       let there = stands (made_same known (state g old) (state g reported) (sym there_is) made_here) (version_same known (state g old) (state g reported) (sym there_is) here) in
-      subst (λ j. StandsFor (state g old) (state g new) office j) is (subst (λ (d : Database). StandsFor (record (state g reported) { now = d }) (state g new) office known) there_is there)
+      subst (λ j. StandsFor (state g old) (state g new) j) is (subst (λ (d : Database). StandsFor (record (state g reported) { now = d }) (state g new) known) there_is there)
 
-  module _ (r : Result OfficeLists OpenFault) where
+  module _ (r : Result (Unit {0}) OpenFault) where
     abbrev pub StandsReturned : Type 0
-    StandsReturned = HasCleanDisk (state g new) → IsMadeAs known (state g reported).now.schema → IsVersionOf (edition_of known) (state g reported) → IfOk r (λ office. StandsFor (state g reported) (state g new) office known)
+    StandsReturned = HasCleanDisk (state g new) → IsMadeAs known (state g reported).now.schema → IsVersionOf (edition_of known) (state g reported) → OnOk r (StandsFor (state g reported) (state g new) known)
 
     abbrev pub OpenedReturned : Type 0 → Type 0
     OpenedReturned More = HasCleanDisk (state g new) → OnOk r (IsTrue (state g reported).is_open × HasColumnsOf (edition_of known).asked (state g reported).now.schema × More)
 
-  pub preserved_stands : (r : Result OfficeLists OpenFault) (More : Type 0) → StandsReturned r → OpenedReturned r More → IfOk r (λ office. StandsWhole g old new office)
-  preserved_stands (Ok office) More stands opened = λ clean. stands_from clean (opened clean).0 office (stands clean)
+  pub preserved_stands : (r : Result (Unit {0}) OpenFault) (More : Type 0) → StandsReturned r → OpenedReturned r More → OnOk r (StandsWhole g old new)
+  preserved_stands (Ok u) More stands opened = λ clean. stands_from clean (opened clean).0 (stands clean)
   preserved_stands (Err e) More stands opened = tt
 
-  pub preserved_whole : (r : Result OfficeLists OpenFault) (More : Type 0) → StandsReturned r → OpenedReturned r More → OnOk r (OpensWhole g old new)
-  preserved_whole (Ok office) More stands opened = λ clean was whole.
+  pub preserved_whole : (r : Result (Unit {0}) OpenFault) (More : Type 0) → StandsReturned r → OpenedReturned r More → OnOk r (OpensWhole g old new)
+  preserved_whole (Ok u) More stands opened = λ clean was whole.
       let is_open = (opened clean).0 in
-      opens_whole (state g old) (state g new) office live (same (early clean) is_open).0 (stands_from clean is_open office (stands clean)) was whole
+      opens_whole (state g old) (state g new) live (same (early clean) is_open).0 (stands_from clean is_open (stands clean)) was whole
   preserved_whole (Err e) More stands opened = tt
 
   were_of : HasCleanDisk (state g new) → IsTrue (state g reported).is_open → HasColumnsOf (edition_of known).asked (state g reported).now.schema → WereOf g known (state g old)
@@ -128,17 +127,17 @@ module _ {S : Type 0} (g : store.Ghosts S) (known : KnownVersion) (old reported 
   pub are_as_reported : HasCleanDisk (state g new) → IsTrue (state g reported).is_open → AreOpened known (state g reported) (state g new) → AreOpened known (state g old) (state g new)
   are_as_reported clean is_open are = opened_same known (state g reported) (state g old) (state g new) (as_reported clean is_open) are
 
-  pub preserved_known : (r : Result OfficeLists OpenFault) (More : Type 0) → OpenedReturned r More → (HasCleanDisk (state g new) → IsTrue (state g reported).is_open → More → AreOpened known (state g old) (state g new)) → OnOk r (WereKnown g old new)
-  preserved_known (Ok office) More opened are = λ clean. let it = opened clean in (known, were_of clean it.0 it.1, are clean it.0 it.2)
+  pub preserved_known : (r : Result (Unit {0}) OpenFault) (More : Type 0) → OpenedReturned r More → (HasCleanDisk (state g new) → IsTrue (state g reported).is_open → More → AreOpened known (state g old) (state g new)) → OnOk r (WereKnown g old new)
+  preserved_known (Ok u) More opened are = λ clean. let it = opened clean in (known, were_of clean it.0 it.1, are clean it.0 it.2)
   preserved_known (Err e) More opened are = tt
 
-  pub preserved_cause : (r : Result OfficeLists OpenFault)
+  pub preserved_cause : (r : Result (Unit {0}) OpenFault)
       → (HasCleanDisk (state g new) → r ≡ Err NotADesk → IsTrue (state g reported).is_open × (IsVersionOf (edition_of known) (state g reported) → IsNoDeskOf known (state g reported)))
       → r ≢ Err NewerVersion → IfErr r (λ fault. IsWhyUnopened g old fault (back.Connection new))
-  preserved_cause (Ok office) none other = tt
+  preserved_cause (Ok u) none other = tt
   preserved_cause (Err fault) none other = record { cause = cause; newer = λ clean why. absurd (not_newer why); whole = λ clean office whole. no_fault_of_whole fault (state g old) office whole live (opened clean) (cause clean) }
     where
-      as_one : (f : OpenFault) → fault ≡ f → ◌≡◌ {A = Result OfficeLists OpenFault} (Err fault) (Err f)
+      as_one : (f : OpenFault) → fault ≡ f → ◌≡◌ {A = Result (Unit {0}) OpenFault} (Err fault) (Err f)
       as_one f e = ap (λ (x : OpenFault). Err x) e
 
       not_newer : fault ≢ NewerVersion
@@ -154,9 +153,9 @@ module _ {S : Type 0} (g : store.Ghosts S) (known : KnownVersion) (old reported 
           let there_is = as_reported clean it.0 in
           none_same known (state g reported) (state g old) there_is (it.1 (version_same known (state g old) (state g reported) (sym there_is) (noted (early clean) notes)))
 
-  pub preserved_rows : (r : Result OfficeLists OpenFault) → (HasCleanDisk (state g new) → IsTrue (state g new).is_open → OnErr r (IsTrue (state g reported).is_open × ((state g new).now.trees ≡ (state g reported).now.trees)))
+  pub preserved_rows : (r : Result (Unit {0}) OpenFault) → (HasCleanDisk (state g new) → IsTrue (state g new).is_open → OnErr r (IsTrue (state g reported).is_open × ((state g new).now.trees ≡ (state g reported).now.trees)))
       → OnErr r (KeepsOpenRows g old new)
-  preserved_rows (Ok office) preserved = tt
+  preserved_rows (Ok u) preserved = tt
   preserved_rows (Err e) preserved = λ clean is_open. let it = preserved clean is_open in it.1 ∙ ap (λ (d : Database). d.trees) (as_reported clean it.0)
 
 module _ {S : Type 0} (g : store.Ghosts S) (old reported new : Held S) (judged : Survives (state g old) (state g reported) (λ _. ⊥)) where
@@ -211,5 +210,5 @@ module _ {S : Type 0} (g : store.Ghosts S) (conn opened : Held S) (same : (state
     whole = moved.whole;
   }
 
-  pub stands_as_opened : (new : State) (office : OfficeLists) (known : KnownVersion) → StandsFor (state g opened) new office known → StandsFor (state g conn) new office known
-  stands_as_opened new office known = subst (λ (d : Database). StandsFor (record (state g opened) { now = d }) new office known) same
+  pub stands_as_opened : (new : State) (known : KnownVersion) → StandsFor (state g opened) new known → StandsFor (state g conn) new known
+  stands_as_opened new known = subst (λ (d : Database). StandsFor (record (state g opened) { now = d }) new known) same

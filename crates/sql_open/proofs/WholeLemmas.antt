@@ -122,17 +122,17 @@ no_fault_of_whole fault s office (known, whole) live opened cause = go fault ref
     go Memory is = inr is
 
 -- tables that were whole stand for their office, where tables of its version stand for the office that they held
-pub opens_whole : (old new : State) (reported : OfficeLists) → IsLive old → IsTrue old.is_open
-    → ((known : KnownVersion) → IsMadeAs known old.now.schema → IsVersionOf (edition_of known) old → StandsFor old new reported known) → (office : OfficeLists) → IsWholeDesk old.now.trees office → Stands new office × LeavesWhole new office
-opens_whole old new reported live is_open stands office (known, whole) =
+pub opens_whole : (old new : State) → IsLive old → IsTrue old.is_open
+    → ((known : KnownVersion) → IsMadeAs known old.now.schema → IsVersionOf (edition_of known) old → StandsFor old new known) → (office : OfficeLists) → IsWholeDesk old.now.trees office → Stands new office × LeavesWhole new office
+opens_whole old new live is_open stands office (known, whole) =
     let made = made_so known old.now office whole (live is_open).0 in
     let it = stands known made whole.version in
-    let same : reported ≡ office = some_is (sym it.0 ∙ whole.holds) in
-    (subst (Stands new) same it.1, subst (LeavesWhole new) same it.2)
+    let same : it.0 ≡ office = some_is (sym it.1 ∙ whole.holds) in
+    (subst (Stands new) same it.2, subst (LeavesWhole new) same it.3)
 
 -- tables of version 1 that were opened stand for the office that they held
 pub first_stands : {S : Type 0} (g : store.Ghosts S) → OpensFirst g
-first_stands g old new office were opened stands clean = stands clean One opened.0 (were.noted (notes_so One (state g old).now.schema opened.0))
+first_stands g old new were opened stands clean = stands clean One opened.0 (were.noted (notes_so One (state g old).now.schema opened.0))
 
 -- the tables of a database that is a new desk are those of one
 pub new_desk : (s : State) (db : Trees) → Stands s empty_office → s.now.schema ≡ desk_schema → IsDatabase s.now → db ≡ s.now.trees → IsNewDesk db

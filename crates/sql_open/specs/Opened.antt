@@ -87,27 +87,27 @@ HoldsNothing g made =
 
 -- the office that tables of this version held is the one for which they stand now, and a crash
 -- leaves it whole
-abbrev pub StandsFor : State → State → OfficeLists → KnownVersion → Type 0
-StandsFor old new office known =
-    (office_by (edition_of known) old.now.trees ≡ Some office) × Stands new office
+abbrev pub StandsFor : State → State → KnownVersion → Type 0
+StandsFor old new known =
+    (office : OfficeLists)
+    × (office_by (edition_of known) old.now.trees ≡ Some office) × Stands new office
     × LeavesWhole new office
 
 -- where the tables were made as those of a version that is known, they stand for the office that
 -- they held, and a crash leaves that office whole
-abbrev pub StandsWhole : {S : Type 0} → store.Ghosts S → Held S → Held S → OfficeLists → Type 0
-StandsWhole g old new office =
-    IfMadeAs g old new (StandsFor (state g old) (state g new) office)
+abbrev pub StandsWhole : {S : Type 0} → store.Ghosts S → Held S → Held S → Type 0
+StandsWhole g old new = IfMadeAs g old new (StandsFor (state g old) (state g new))
 
 -- tables of version 1 that were opened stand for the office that they held, and a crash leaves it
 -- whole
 abbrev pub OpensFirst : {S : Type 0} → store.Ghosts S → Type 0
 OpensFirst {S} g =
-    (old new : Held S) (office : OfficeLists)
+    (old new : Held S)
     → WereOf g One (state g old)
     → AreOpened One (state g old) (state g new)
-    → StandsWhole g old new office
+    → StandsWhole g old new
     → HasCleanDisk (state g new)
-    → StandsFor (state g old) (state g new) office One
+    → StandsFor (state g old) (state g new) One
 
 -- a crash leaves what it left before, or tables of version 1 moved
 abbrev pub SurvivesMoving : {S : Type 0} → store.Ghosts S → Held S → Held S → Type 0

@@ -1,5 +1,5 @@
 -- Why a database is not opened as a desk, and what is handed back then.
-use Rattle.std.specs.Prelude.{◌≡◌, ◌≢◌, ◌⊎◌, ◌≤◌, false, List, [], ◌∷◌, Some, Result, Err, IsTrue}
+use Rattle.std.specs.Prelude.{◌≡◌, ◌≢◌, ◌⊎◌, ◌≤◌, false, List, [], ◌∷◌, Result, Err, IsTrue}
 use Rattle.std.specs.Prelude.{IfErr, IfOk, OnOk}
 use Rattle.sqlite.specs.declared.error.Error.{Error}
 use Rattle.sqlite.specs.declared.error.Error.TheVariants.{SqliteFailure}
@@ -12,10 +12,8 @@ use Rattle.sqlite.specs.Tree.{Trees}
 use Rattle.sqlite_disk.specs.Disk.{MoreFaults}
 use Rattle.sqlite_trees.specs.View.{IsClean}
 use Rattle.sqlite_trees.specs.declared.store.Store as store
-use Rattle.desk_words.specs.declared.office.OfficeLists.{OfficeLists}
-use Rattle.desk_words.specs.Office.{is_office}
 use Rattle.sql_rows.specs.declared.stored_records.Version.{Version}
-use Rattle.sql_model.specs.OfficeRecords.{office_in}
+use Rattle.sql_load.specs.Judging.{HasOffice}
 use Rattle.sql_schema.specs.Statements.{ChangesNothing, IsDesk, IsRead, WasOpen}
 use Rattle.sql_desk_tables.specs.ColumnChecks.{HasColumnsOf}
 use Rattle.sql_desk_tables.specs.Versions.{AreNoted}
@@ -34,15 +32,12 @@ use Rattle.sql_open.specs.declared.opening.HandedBack.{HandedBack}
 use Rattle.sql_open.specs.declared.opening.HandedBack.TheVariants as back
 use Rattle.sql_open.specs.declared.version.KnownVersion.{KnownVersion}
 
--- what the tables hold is this, and an office
-abbrev pub HoldsOffice : State → OfficeLists → Type 0
-HoldsOffice s office = (office_in s.now.trees ≡ Some office) × IsTrue (is_office office)
-
--- the office that the tables of a desk held is returned
-abbrev pub ReturnsOffice : {S : Type 0} → store.Ghosts S → Held S → Held S
-    → Result OfficeLists OpenFault → Type 0
-ReturnsOffice g old new result =
-    HasCleanDisk (state g new) → IsDesk (state g old) → IfOk result (HoldsOffice (state g old))
+-- the tables of a desk held an office
+abbrev pub FindsOffice : {S : Type 0} → store.Ghosts S → Held S → Held S
+    → Result (Unit {0}) OpenFault → Type 0
+FindsOffice g old new result =
+    HasCleanDisk (state g new) → IsDesk (state g old)
+    → OnOk result (HasOffice (state g old).now.trees)
 
 -- tables that are no desk's are wrong in this way; of want of memory and of the store's own faults
 -- nothing is said
@@ -88,11 +83,11 @@ pub record ReturnsVersion {S : Type 0} (g : store.Ghosts S) (old new : Held S)
   pub was_open : WasOpen (state g old) (state g new)
   pub crash : Survives (state g old) (state g new) (λ _. ⊥)
 
--- in a transaction over the tables of a desk this is the office that they hold, or they hold none,
--- and nothing is changed
+-- in a transaction over the tables of a desk they are found to hold an office, or to hold none, and
+-- nothing is changed
 pub record IsVerdict {S : Type 0} (g : store.Ghosts S) (old new : Held S)
-    (result : Result OfficeLists OpenFault) : Type 0 where
-  pub right : IsRead g old new → IfOk result (HoldsOffice (state g old))
+    (result : Result (Unit {0}) OpenFault) : Type 0 where
+  pub right : IsRead g old new → OnOk result (HasOffice (state g old).now.trees)
   pub same : IsRead g old new → OnOk result (IsUnchanged (state g old) (state g new))
   pub none : IsRead g old new → result ≡ Err NotADesk → HasNoOffice (state g old)
   pub other : result ≢ Err NewerVersion

@@ -1,5 +1,5 @@
 -- What the move of tables of version 1 promises, and what a crash leaves of it.
-use Rattle.std.specs.Prelude.{◌≡◌, ◌≢◌, Some, Result, Err, IfOk, IsTrue}
+use Rattle.std.specs.Prelude.{◌≡◌, ◌≢◌, Some, Result, Err, OnOk, IsTrue}
 use Rattle.sqlite.specs.Effect.{IsDatabase}
 use Rattle.sqlite.specs.Held.{Held, state}
 use Rattle.sqlite.specs.State.{State, HasCleanDisk, Survives}
@@ -19,18 +19,19 @@ use Rattle.sql_open.specs.declared.fault.OpenFault.TheVariants.{NotADesk, NewerV
 use Rattle.sql_open.specs.declared.version.KnownVersion.TheVariants.{One}
 
 -- the tables stand for the office that tables of version 1 held, and are those, moved
-pub record HoldsMoved (old new : State) (office : OfficeLists) : Type 0 where
+pub record HoldsMoved (old new : State) : Type 0 where
+  pub office : OfficeLists
   pub stands : Stands new office
   pub sound : IsDatabase new.now
   pub was : office_one old.now.trees ≡ Some office
   pub moved : IsMoved old new
 
--- in a transaction tables of version 1 are moved, and this is the office that they hold, or they
--- hold none; nothing is committed
+-- in a transaction tables of version 1 are moved, and found to hold an office, or to hold none;
+-- nothing is committed
 pub record IsMove {S : Type 0} (g : store.Ghosts S) (old new : Held S)
-    (result : Result OfficeLists OpenFault) : Type 0 where
+    (result : Result (Unit {0}) OpenFault) : Type 0 where
   pub right : HasCleanDisk (state g new) → IsTrue (state g old).in_transaction
-      → IsFirst (state g old) → IfOk result (HoldsMoved (state g old) (state g new))
+      → IsFirst (state g old) → OnOk result (HoldsMoved (state g old) (state g new))
   pub none : HasCleanDisk (state g new) → IsTrue (state g old).in_transaction
       → IsFirst (state g old) → result ≡ Err NotADesk → HasNoOfficeBy one (state g old)
   pub other : result ≢ Err NewerVersion

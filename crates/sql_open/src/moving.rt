@@ -1,5 +1,5 @@
 //! The desk of version 1, which is opened as it is moved.
-ghost use Rattle.std.specs.Prelude.{◌≡◌, ◌≢◌, false, Err, IfOk, IsTrue, OnErr};
+ghost use Rattle.std.specs.Prelude.{◌≡◌, ◌≢◌, false, Err, IsTrue, OnErr, OnOk};
 ghost use Rattle.sql_migrate.specs.Migration.{IsFirst};
 ghost use Rattle.sql_open.specs.Crashes.{LeavesItself};
 ghost use Rattle.sql_open.specs.Known.{AreOpened, IsMadeAs};
@@ -11,42 +11,35 @@ ghost use Rattle.sql_open.specs.declared.fault.OpenFault.TheVariants.{NotADesk, 
 ghost use Rattle.sql_open.specs.declared.version.KnownVersion.TheVariants as known;
 ghost use Rattle.sql_model.specs.Standing.{HasNoOfficeBy, IsVersionOf, one};
 ghost use Rattle.sql_desk_tables.specs.ColumnChecks.{HasColumnsOf};
-ghost use Rattle.desk_words.specs.Office.{is_office};
 ghost use Rattle.sqlite.specs.Held.{state};
 ghost use Rattle.sqlite.specs.State.{HasCleanDisk, Survives};
 
 use crate::creation::rests;
 use crate::fault::OpenFault;
 use crate::first::judge_declared;
-use crate::opening::{judge_columns, read_lists};
+use crate::opening::{judge_columns, judge_tables};
 use crate::version::KnownVersion;
-use desk_words::OfficeLists;
 use sql_migrate::move_tables;
 use sqlite::{Alter, Connection, Transaction};
 use std::alloc::Global;
 
-/// Moves the tables of version 1, and reads the office that they hold. Nothing is committed.
+/// Moves the tables of version 1, and judges whether they hold an office. Nothing is committed.
 #[tactic(auto, using(crate::proofs::FaultLemmas::of_the_store))]
-fn move_and_read<S: Alter>(
-    tx: &mut Transaction<'_, S>,
-    alloc: Global,
-) -> Result<OfficeLists, OpenFault>
+fn move_and_judge<S: Alter>(tx: &mut Transaction<'_, S>, alloc: Global) -> Result<(), OpenFault>
     ensures same_reference { tx.new.conn.ghost_name ≡ tx.old.conn.ghost_name }
     ensures moves { IsMove S.Store tx.old.conn.now tx.new.conn.now result }
-    ensures office { IfOk result (λ office. IsTrue (is_office office)) }
 {
     move_tables(tx)?;
-    read_lists(tx, alloc)
+    judge_tables(tx, alloc)
 }
 
 /// Moves the tables of version 1 in one transaction, which is committed only where what they hold is
-/// an office, and tells that office.
-fn move_desk<S: Alter>(conn: &mut Connection<S>, alloc: Global) -> Result<OfficeLists, OpenFault>
+/// an office.
+fn move_desk<S: Alter>(conn: &mut Connection<S>, alloc: Global) -> Result<(), OpenFault>
     requires { conn.old.in_transaction ≡ false }
     ensures ended { conn.new.in_transaction ≡ false }
     ensures moved { HasCleanDisk (state S.Store conn.new) → IsFirst (state S.Store conn.old)
-        → IfOk result (HoldsMoved (state S.Store conn.old) (state S.Store conn.new)) }
-    ensures office { IfOk result (λ office. IsTrue (is_office office)) }
+        → OnOk result (HoldsMoved (state S.Store conn.old) (state S.Store conn.new)) }
     ensures is_open { OnDone S.Store conn.new result (IsTrue (state S.Store conn.old).is_open
         × IsTrue (state S.Store conn.new).is_open) }
     ensures preserved { HasCleanDisk (state S.Store conn.new) → IsTrue (state S.Store conn.new).is_open
@@ -60,12 +53,12 @@ fn move_desk<S: Alter>(conn: &mut Connection<S>, alloc: Global) -> Result<Office
 {
     let _ = conn.is_autocommit();
     let mut tx = conn.transaction();
-    match move_and_read(&mut tx, alloc) {
-        Ok(office) => {
+    match move_and_judge(&mut tx, alloc) {
+        Ok(()) => {
             let done = tx.commit();
             let _ = conn.is_autocommit();
             done?;
-            Ok(office)
+            Ok(())
         }
         Err(fault) => {
             tx.rollback();
@@ -75,26 +68,22 @@ fn move_desk<S: Alter>(conn: &mut Connection<S>, alloc: Global) -> Result<Office
     }
 }
 
-/// The office that tables of version 1 hold, which are moved, where each column that is read of
-/// that version stands, and the database has just the tables and indexes that its program made.
-/// Otherwise nothing is written. The store is open then.
-pub(crate) fn moved_office<S: Alter>(
-    conn: &mut Connection<S>,
-    alloc: Global,
-) -> Result<OfficeLists, OpenFault>
+/// Moves tables of version 1 that hold an office, where each column that is read of that version
+/// stands, and the database has just the tables and indexes that its program made. Otherwise nothing
+/// is written. The store is open then.
+pub(crate) fn open_moved<S: Alter>(conn: &mut Connection<S>, alloc: Global) -> Result<(), OpenFault>
     requires none { conn.old.in_transaction ≡ false }
     requires rising { HasCleanDisk (state S.Store conn.old) → IsTrue (state S.Store conn.old).is_open
         → RowsRise (state S.Store conn.old) }
     ensures ended { conn.new.in_transaction ≡ false }
     ensures stands { HasCleanDisk (state S.Store conn.new)
-        → IsVersionOf one (state S.Store conn.old) → IfOk result (λ office.
-        StandsFor (state S.Store conn.old) (state S.Store conn.new) office known.One) }
+        → IsVersionOf one (state S.Store conn.old)
+        → OnOk result (StandsFor (state S.Store conn.old) (state S.Store conn.new) known.One) }
     ensures opened { OnDone S.Store conn.new result (IsTrue (state S.Store conn.old).is_open
         × HasColumnsOf one.asked (state S.Store conn.old).now.schema
         × (IsMadeAs known.One (state S.Store conn.old).now.schema
         × (IsVersionOf one (state S.Store conn.old)
         → AreOpened known.One (state S.Store conn.old) (state S.Store conn.new)))) }
-    ensures office { IfOk result (λ office. IsTrue (is_office office)) }
     ensures is_open { OnDone S.Store conn.new result (IsTrue (state S.Store conn.new).is_open) }
     ensures settled { OnDone S.Store conn.new result (LeavesItself (state S.Store conn.new)) }
     ensures preserved { HasCleanDisk (state S.Store conn.new) → IsTrue (state S.Store conn.new).is_open
@@ -111,7 +100,7 @@ pub(crate) fn moved_office<S: Alter>(
     judge_columns(conn, KnownVersion::One)?;
     judge_declared(conn, alloc)?;
     let _ = conn.schema();
-    let office = move_desk(conn, alloc)?;
+    move_desk(conn, alloc)?;
     rests(conn);
-    Ok(office)
+    Ok(())
 }

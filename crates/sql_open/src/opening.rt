@@ -5,8 +5,8 @@ ghost use Rattle.sql_open.specs.Known.{AreOpened, IsMadeAs, edition_of};
 ghost use Rattle.sql_open.specs.Opened.{IsSettled, IsWhyUnopened, KeepsOpenRows, KeepsTables};
 ghost use Rattle.sql_open.specs.Opened.{OnDone, StandsFor, StandsWhole, StaysOpen};
 ghost use Rattle.sql_open.specs.Opened.{SurvivesMoving, WereKnown};
-ghost use Rattle.sql_open.specs.Opening.{HandsBack, IsInNone, IsNoDeskOf, IsVerdict, IsWhyShut};
-ghost use Rattle.sql_open.specs.Opening.{ReportsReopening, ReturnsOffice};
+ghost use Rattle.sql_open.specs.Opening.{FindsOffice, HandsBack, IsInNone, IsNoDeskOf, IsVerdict};
+ghost use Rattle.sql_open.specs.Opening.{IsWhyShut, ReportsReopening};
 ghost use Rattle.sql_open.specs.Rising.{RowsRise};
 ghost use Rattle.sql_open.specs.WholeDesk.{AsksOpen, OpensWhole};
 ghost use Rattle.sql_model.specs.Standing.{HasNoOffice, IsVersionOf, two};
@@ -16,19 +16,15 @@ ghost use Rattle.sql_open.specs.declared.opening.HandedBack.TheVariants as back;
 ghost use Rattle.sql_open.specs.declared.version.KnownVersion.TheVariants as known;
 ghost use Rattle.sql_schema.specs.Statements.{IsDesk, WasOpen};
 ghost use Rattle.sql_desk_tables.specs.ColumnChecks.{HasColumnsOf};
-ghost use Rattle.desk_words.specs.Office.{is_office};
-ghost use Rattle.office_validation.specs.Validation.{office_in_order};
 ghost use Rattle.sqlite.specs.Held.{state};
 ghost use Rattle.sqlite.specs.State.{Fails, HasCleanDisk, Survives};
 ghost use Rattle.sqlite_trees.specs.View.{IsClean};
 
 use crate::fault::OpenFault;
-use crate::moving::moved_office;
+use crate::moving::open_moved;
 use crate::version::{KnownVersion, judge_version};
-use desk_words::OfficeLists;
-use office_validation::office_checked;
 use sql_desk_tables::columns;
-use sql_load::read_office;
+use sql_load::judge_office;
 use sqlite::{Alter, Connection, Error, ErrorCode, Transaction};
 use std::alloc::Global;
 
@@ -77,36 +73,21 @@ fn reopened<S: Alter + Drop>(
     }
 }
 
-/// The office that the lists are, where they are one.
-fn judge_lists(alloc: Global, lists: OfficeLists) -> Result<OfficeLists, OpenFault>
-    ensures ordered { IfOk result (λ office. office ≡ office_in_order lists) }
-    ensures office { IfOk result (λ office. IsTrue (is_office office)) }
-    ensures wrong { result ≡ Err NotADesk → is_office (office_in_order lists) ≡ false }
-    ensures sure { IfErr result (λ fault. fault ≡ NotADesk) }
-    ensures other { result ≢ Err NewerVersion }
-{
-    match office_checked(alloc, lists) {
-        Some(office) => Ok(office),
-        None => Err(OpenFault::NotADesk),
-    }
-}
-
-/// The office that the tables hold.
-pub(crate) fn read_lists<S: Alter>(
+/// Judges whether the tables hold an office. The fault is `NotADesk` only where they hold none.
+pub(crate) fn judge_tables<S: Alter>(
     tx: &mut Transaction<'_, S>,
     alloc: Global,
-) -> Result<OfficeLists, OpenFault>
+) -> Result<(), OpenFault>
     ensures same_reference { tx.new.conn.ghost_name ≡ tx.old.conn.ghost_name }
-    ensures read { IsVerdict S.Store tx.old.conn.now tx.new.conn.now result }
-    ensures office { IfOk result (λ office. IsTrue (is_office office)) }
+    ensures judged { IsVerdict S.Store tx.old.conn.now tx.new.conn.now result }
 {
-    let lists = read_office(tx, alloc)?;
-    judge_lists(alloc, lists)
+    judge_office(tx, alloc)?;
+    Ok(())
 }
 
-/// The office that the tables hold, read in one transaction, which is rolled back. The fault is
+/// Judges whether the tables hold an office, in one transaction, which is rolled back. The fault is
 /// never `NewerVersion`.
-fn examine<S: Alter>(conn: &mut Connection<S>, alloc: Global) -> Result<OfficeLists, OpenFault>
+fn examine<S: Alter>(conn: &mut Connection<S>, alloc: Global) -> Result<(), OpenFault>
     requires { conn.old.in_transaction ≡ false }
     ensures ended { conn.new.in_transaction ≡ false }
     ensures crash { Survives (state S.Store conn.old) (state S.Store conn.new) (λ _. ⊥) }
@@ -114,18 +95,17 @@ fn examine<S: Alter>(conn: &mut Connection<S>, alloc: Global) -> Result<OfficeLi
     ensures preserved { HasCleanDisk (state S.Store conn.new) → IsTrue (state S.Store conn.old).is_open
         → IsTrue (state S.Store conn.new).is_open
         → (state S.Store conn.new).now.trees ≡ (state S.Store conn.old).now.trees }
-    ensures holds { ReturnsOffice S.Store conn.old conn.new result }
-    ensures office { IfOk result (λ office. IsTrue (is_office office)) }
+    ensures holds { FindsOffice S.Store conn.old conn.new result }
     ensures none { HasCleanDisk (state S.Store conn.new) → IsDesk (state S.Store conn.old)
         → result ≡ Err NotADesk → HasNoOffice (state S.Store conn.old) }
     ensures other { result ≢ Err NewerVersion }
 {
     let _ = conn.is_autocommit();
     let mut tx = conn.transaction();
-    let read = read_lists(&mut tx, alloc);
+    let judged = judge_tables(&mut tx, alloc);
     tx.rollback();
     let _ = conn.is_autocommit();
-    read
+    judged
 }
 
 /// Judges whether each column that is read of a version stands. The fault is `NotADesk` only where
@@ -172,21 +152,20 @@ pub fn ask_open<S: Alter>(conn: &mut Connection<S>) -> Result<(), Error>
     Ok(())
 }
 
-/// The office that tables of version 2 hold, where each column that is read stands, they are as
-/// they were and the store is open still.
-fn office_as_is<S: Alter>(conn: &mut Connection<S>, alloc: Global) -> Result<OfficeLists, OpenFault>
+/// Opens tables of version 2 as they are, where each column that is read stands and they hold an
+/// office. The store is open still.
+fn open_as_is<S: Alter>(conn: &mut Connection<S>, alloc: Global) -> Result<(), OpenFault>
     requires none { conn.old.in_transaction ≡ false }
     requires rising { HasCleanDisk (state S.Store conn.old) → IsTrue (state S.Store conn.old).is_open
         → RowsRise (state S.Store conn.old) }
     ensures ended { conn.new.in_transaction ≡ false }
     ensures stands { HasCleanDisk (state S.Store conn.new)
         → IsMadeAs known.Two (state S.Store conn.old).now.schema
-        → IsVersionOf two (state S.Store conn.old) → IfOk result (λ office.
-        StandsFor (state S.Store conn.old) (state S.Store conn.new) office known.Two) }
+        → IsVersionOf two (state S.Store conn.old)
+        → OnOk result (StandsFor (state S.Store conn.old) (state S.Store conn.new) known.Two) }
     ensures opened { OnDone S.Store conn.new result (IsTrue (state S.Store conn.old).is_open
         × HasColumnsOf two.asked (state S.Store conn.old).now.schema
         × AreOpened known.Two (state S.Store conn.old) (state S.Store conn.new)) }
-    ensures office { IfOk result (λ office. IsTrue (is_office office)) }
     ensures is_open { OnDone S.Store conn.new result (IsTrue (state S.Store conn.new).is_open) }
     ensures settled { OnDone S.Store conn.new result (LeavesItself (state S.Store conn.new)) }
     ensures preserved { HasCleanDisk (state S.Store conn.new) → IsTrue (state S.Store conn.new).is_open
@@ -199,27 +178,23 @@ fn office_as_is<S: Alter>(conn: &mut Connection<S>, alloc: Global) -> Result<Off
 {
     let _ = conn.schema();
     judge_columns(conn, KnownVersion::Two)?;
-    let office = examine(conn, alloc)?;
+    examine(conn, alloc)?;
     ask_open(conn)?;
     let _ = conn.schema();
-    Ok(office)
+    Ok(())
 }
 
-/// The office that tables of a version that is known hold, where each column that is read of it
-/// stands. Those of version 2 are as they were, and those of version 1 are moved. The store is open
-/// still. The version is asked before the other tables are read.
-fn office_stored<S: Alter>(
-    conn: &mut Connection<S>,
-    alloc: Global,
-) -> Result<OfficeLists, OpenFault>
+/// Opens tables of a version that is known, where each column that is read of it stands and they hold
+/// an office. Those of version 2 are as they were, and those of version 1 are moved. The store is
+/// open still. The version is asked before the other tables are read.
+fn open_stored<S: Alter>(conn: &mut Connection<S>, alloc: Global) -> Result<(), OpenFault>
     requires none { conn.old.in_transaction ≡ false }
     requires rising { HasCleanDisk (state S.Store conn.old) → RowsRise (state S.Store conn.old) }
     ensures ended { conn.new.in_transaction ≡ false }
-    ensures stands { IfOk result (λ office. StandsWhole S.Store conn.old conn.new office) }
+    ensures stands { OnOk result (StandsWhole S.Store conn.old conn.new) }
     ensures whole { OnOk result (OpensWhole S.Store conn.old conn.new) }
     ensures known { OnOk result (WereKnown S.Store conn.old conn.new) }
     ensures is_open { OnOk result (StaysOpen S.Store conn.new) }
-    ensures office { IfOk result (λ office. IsTrue (is_office office)) }
     ensures settled { OnOk result (IsSettled S.Store conn.new) }
     ensures cause { IfErr result (λ fault.
         IsWhyUnopened S.Store conn.old fault (back.Connection conn.new)) }
@@ -228,12 +203,14 @@ fn office_stored<S: Alter>(
 {
     let _ = conn.schema();
     match judge_version(conn, alloc)? {
-        KnownVersion::One => moved_office(conn, alloc),
-        KnownVersion::Two => office_as_is(conn, alloc),
+        KnownVersion::One => open_moved(conn, alloc),
+        KnownVersion::Two => open_as_is(conn, alloc),
     }
 }
 
-/// Opens the tables of the desk that the database holds, and gives the office that they hold.
+/// Opens the tables of the desk that the database holds. The lists of its meetings are read and judged
+/// one after the other, so that it takes the memory of the fullest.
+///
 /// Tables of version 2 are opened as they are, and nothing is written: they stand first and are
 /// declared as `create` declares them; other tables, indexes and views may stand beside them.
 /// Tables of version 1 are moved to version 2 in one transaction, which is committed only where
@@ -257,18 +234,17 @@ fn office_stored<S: Alter>(
 pub fn open<S: Alter + Drop>(
     alloc: Global,
     conn: Connection<S>,
-) -> Result<(Connection<S>, OfficeLists), (OpenFault, HandedBack<S>)>
-    ensures stands { IfOk result (λ opened. StandsWhole S.Store conn opened.0 opened.1) }
-    ensures whole { IfOk result (λ opened. OpensWhole S.Store conn opened.0) }
-    ensures known { IfOk result (λ opened. WereKnown S.Store conn opened.0) }
-    ensures is_open { IfOk result (λ opened. StaysOpen S.Store opened.0) }
-    ensures office { IfOk result (λ opened. IsTrue (is_office opened.1)) }
-    ensures none { IfOk result (λ opened. opened.0.in_transaction ≡ false) }
+) -> Result<Connection<S>, (OpenFault, HandedBack<S>)>
+    ensures stands { IfOk result (λ opened. StandsWhole S.Store conn opened) }
+    ensures whole { IfOk result (λ opened. OpensWhole S.Store conn opened) }
+    ensures known { IfOk result (λ opened. WereKnown S.Store conn opened) }
+    ensures is_open { IfOk result (λ opened. StaysOpen S.Store opened) }
+    ensures none { IfOk result (λ opened. opened.in_transaction ≡ false) }
     ensures cause { IfErr result (λ e. IsWhyUnopened S.Store conn e.0 e.1) }
     ensures preserved { IfErr result (λ e. HandsBack S.Store (state S.Store conn).now.trees e.1) }
     ensures ended { IfErr result (λ e. conn.in_transaction ≡ false → IsInNone e.1) }
     ensures reopening { IfErr result (λ e. ReportsReopening S.Store conn e.0 e.1) }
-    ensures settled { IfOk result (λ opened. IsSettled S.Store opened.0) }
+    ensures settled { IfOk result (λ opened. IsSettled S.Store opened) }
     ensures crash { IfErr result (λ e. LeavesAtMostMoved S.Store (state S.Store conn) e.1) }
     ensures inside { IsTrue conn.in_transaction
         → result ≡ Err (opening.Store, back.Connection conn) }
@@ -280,8 +256,8 @@ pub fn open<S: Alter + Drop>(
         Ok(conn) => conn,
         Err((fault, store)) => return Err((fault, HandedBack::Store(store))),
     };
-    match office_stored(&mut conn, alloc) {
-        Ok(office) => Ok((conn, office)),
+    match open_stored(&mut conn, alloc) {
+        Ok(()) => Ok(conn),
         Err(fault) => Err((fault, HandedBack::Connection(conn))),
     }
 }
@@ -293,25 +269,24 @@ pub fn open<S: Alter + Drop>(
 pub fn open_risen<S: Alter + Drop>(
     alloc: Global,
     conn: Connection<S>,
-) -> Result<(Connection<S>, OfficeLists), (OpenFault, Connection<S>)>
+) -> Result<Connection<S>, (OpenFault, Connection<S>)>
     requires none { conn.in_transaction ≡ false }
     requires rising { HasCleanDisk (state S.Store conn) → RowsRise (state S.Store conn) }
-    ensures stands { IfOk result (λ opened. StandsWhole S.Store conn opened.0 opened.1) }
-    ensures whole { IfOk result (λ opened. OpensWhole S.Store conn opened.0) }
-    ensures known { IfOk result (λ opened. WereKnown S.Store conn opened.0) }
-    ensures is_open { IfOk result (λ opened. StaysOpen S.Store opened.0) }
-    ensures office { IfOk result (λ opened. IsTrue (is_office opened.1)) }
-    ensures ended { IfOk result (λ opened. opened.0.in_transaction ≡ false) }
+    ensures stands { IfOk result (λ opened. StandsWhole S.Store conn opened) }
+    ensures whole { IfOk result (λ opened. OpensWhole S.Store conn opened) }
+    ensures known { IfOk result (λ opened. WereKnown S.Store conn opened) }
+    ensures is_open { IfOk result (λ opened. StaysOpen S.Store opened) }
+    ensures ended { IfOk result (λ opened. opened.in_transaction ≡ false) }
     ensures cause { IfErr result (λ e. IsWhyUnopened S.Store conn e.0 (back.Connection e.1)) }
     ensures preserved { IfErr result (λ e. KeepsOpenRows S.Store conn e.1) }
     ensures back { IfErr result (λ e. e.1.in_transaction ≡ false) }
-    ensures settled { IfOk result (λ opened. IsSettled S.Store opened.0) }
-    ensures survives { IfOk result (λ opened. SurvivesMoving S.Store conn opened.0) }
+    ensures settled { IfOk result (λ opened. IsSettled S.Store opened) }
+    ensures survives { IfOk result (λ opened. SurvivesMoving S.Store conn opened) }
     ensures crash { IfErr result (λ e. SurvivesMoving S.Store conn e.1) }
 {
     let mut conn = conn;
-    match office_stored(&mut conn, alloc) {
-        Ok(office) => Ok((conn, office)),
+    match open_stored(&mut conn, alloc) {
+        Ok(()) => Ok(conn),
         Err(fault) => Err((fault, conn)),
     }
 }

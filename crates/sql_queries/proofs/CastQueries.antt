@@ -13,7 +13,8 @@ use Rattle.sql_lemmas.proofs.Reading.{AsksAs}
 use Rattle.sql_stored.specs.KeyLemmas.{of_numbered}
 use Rattle.sql_stored.specs.Keys.{NamesNumbered, three_tests}
 use Rattle.sql_queries.specs.HandedInQueries.{names_cast}
-use Rattle.sql_queries.proofs.CountQueries.{IsCount, count_name, counted}
+use Rattle.sql_lemmas.proofs.Counting.{count_name, counted}
+use Rattle.sql_queries.proofs.CountQueries.{IsCount}
 
 abbrev pub cast_count_text : List ℕ
 cast_count_text = codes "SELECT COUNT(*) FROM casts WHERE meeting = ?1 AND voter = ?2 AND resolution = ?3"

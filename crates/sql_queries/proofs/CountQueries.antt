@@ -1,107 +1,32 @@
 -- A query that counts the records that pass a test: what it finds, and that it changes nothing.
-use Rattle.std.proofs.Common.{◌≡◌, inl, inr, ℕ, suc, min, pos, negsuc, List, [], ◌∷◌, codes, map, filter, length, Bool, true, false, None, Some, Option, Ok, Err, Result, IfOk, IsPermutation, refl, sym, ap, subst, ◌∙◌, arith, rules}
-use Rattle.std.specs.List.{AllByRecursion, AllZip}
+use Rattle.std.proofs.Common.{◌≡◌, inl, inr, ℕ, suc, List, [], ◌∷◌, map, filter, length, Bool, None, Some, Option, Ok, Err, Result, IfOk, refl, sym, ap, subst, ◌∙◌, rules}
 use Rattle.std.proofs.lemmas.List.{length-map}
-use Rattle.std.proofs.lemmas.List.Elements.{All-from_recursion, recursion_from_All}
-use Rattle.std.proofs.lemmas.List.Sorted.{All-permutation, length_permutation}
 use Rattle.sqlite.specs.declared.error.Error.{Error}
-use Rattle.sqlite.specs.declared.types.Value.TheVariants.{Null, Int}
-use Rattle.sqlite.specs.Collation.TheVariants.{Binary}
+use Rattle.sqlite.specs.declared.types.Value.TheVariants.{Null}
 use Rattle.sqlite.specs.Command.TheVariants.{Select}
 use Rattle.sqlite.specs.Held.{Held, state}
 use Rattle.sqlite.specs.Order.{Row}
 use Rattle.sqlite.specs.Program.{given_at, overlay}
-use Rattle.sqlite.specs.Query.{IsAnswer, Output, Query, end, inner, output, page}
+use Rattle.sqlite.specs.Query.{IsAnswer}
 use Rattle.sqlite.specs.Schema.{Schema}
 use Rattle.sqlite.specs.State.{HasCleanDisk, Shown}
-use Rattle.sqlite.specs.Term.{Term, col, eval, lit}
+use Rattle.sqlite.specs.Term.{Term}
 use Rattle.sqlite.specs.Tree.{Trees}
 use Rattle.sqlite.proofs.Callers.{reads_as}
-use Rattle.sqlite_sql.specs.Group.{Grouping, IsSummary, value_over}
-use Rattle.sqlite_sql.specs.Term.{Env}
-use Rattle.sqlite_sql.specs.declared.aggregate.AggregateOp.TheVariants as by
 use Rattle.sqlite_trees.specs.declared.store.Store as store
 use Rattle.sql_rows.specs.Meanings.{all_meanings}
 use Rattle.sql_schema.specs.Statements.{ChangesNothing, HasTables, IsRead, TableOf, columns_of, layout_two}
-use Rattle.sql_lemmas.proofs.Deleting.{each_passed, passes}
+use Rattle.sql_lemmas.proofs.Counting.{count_name, counted, counts_passing}
+use Rattle.sql_lemmas.proofs.Deleting.{passes}
 use Rattle.sql_lemmas.proofs.GivenNumbers.{each_means}
 use Rattle.sql_lemmas.proofs.Queries.{asked_alone}
 use Rattle.sql_lemmas.proofs.Reading.{AsksAs, found_records, shown_same}
+use Rattle.sql_lemmas.specs.CountedRows.{count_rows}
 use Rattle.sql_stored.specs.Keys.{IsAsked}
-use Rattle.sql_queries.specs.CountedRecords.{CountsRecords, count_rows}
-
--- all rows are one group, and are counted
-abbrev pub all_counted : Grouping
-all_counted = record {
-  keys = [];
-  collations = [];
-  aggregates = record { op = by.CountRows; distinct = false; collation = Binary; argument = lit Null } ∷ [];
-  having = [];
-}
-
--- a query of how many rows pass the tests
-abbrev pub counted : ℕ → List Term → Query
-counted tree tests = record {
-  from = inner tree end;
-  filter = tests;
-  group = Some all_counted;
-  project = col 1 0 ∷ [];
-  distinct = false;
-  collations = [];
-  order = [];
-  limit = lit (Int (negsuc 0));
-  offset = lit (Int (pos 0));
-}
-
-abbrev pub count_name : List (List ℕ)
-count_name = codes "COUNT(*)" ∷ []
-
--- what is alone stands so in any order
-alone : {X : Type 0} (x : X) (ys : List X) → IsPermutation (x ∷ []) ys → ys ≡ x ∷ []
-alone {X} x ys same =
-    go ys (length_permutation (x ∷ []) ys same)
-    (recursion_from_All (λ y. y ≡ x) ys (All-permutation (λ y. y ≡ x) (x ∷ []) ys same (All-from_recursion (λ y. y ≡ x) (x ∷ []) (refl, tt))))
-  where
-    go : (ys : List X) → length ys ≡ 1 → AllByRecursion (λ y. y ≡ x) ys → ys ≡ x ∷ []
-    go [] long each = absurd (omega (arith, long))
-    go (y ∷ []) long each = ap (λ z. z ∷ []) each.0
-    go (y ∷ z ∷ more) long each = absurd (omega (arith, long))
-
--- the summary of a group is how many there are in it
-summary_is : (group : List Env) (row : Row) → IsSummary all_counted group row → row ≡ Int (pos (min (length group) 9223372036854775807)) ∷ []
-summary_is group row (values, each, is) = is ∙ go values each
-  where
-    go : (values : Row) → AllZip (λ a v. value_over group a ≡ Some v) all_counted.aggregates values → values ≡ Int (pos (min (length group) 9223372036854775807)) ∷ []
-    go [] each = absurd each
-    go (v ∷ []) each =
-        let same : Int (pos (min (length (map (eval (lit Null)) group)) 9223372036854775807)) ≡ v = cc in
-        ap (λ w. w ∷ []) (sym same) ∙ ap (λ n. Int (pos (min n 9223372036854775807)) ∷ []) (length-map group (eval (lit Null)))
-    go (v ∷ w ∷ more) each = absurd each.1
-
--- and of one group there is one
-summaries_are : (group : List Env) (rows : List Row) → AllZip (IsSummary all_counted) (group ∷ []) rows → rows ≡ count_rows (length group)
-summaries_are group [] each = absurd each
-summaries_are group (row ∷ []) each = ap (λ r. r ∷ []) (summary_is group row each.0)
-summaries_are group (row ∷ next ∷ more) each = absurd each.1
-
-module _ (tree : ℕ) (tests : List Term) (params : Row) (db : Trees) (none : given_at [] tree ≡ None) where
-  counts_passing : (rows : List Row) → IsAnswer (counted tree tests) (overlay db []) params rows → rows ≡ count_rows (length (filter (passes tests params) (db tree)))
-  counts_passing rows a =
-      let q = counted tree tests in
-      let found = filter (passes tests params) (db tree) in
-      let here : overlay db [] tree ≡ db tree = rw none in
-      let all = each_passed (λ r. params ∷ r ∷ []) (passes tests params) (overlay db [] tree) ∙ ap (λ rs. map (λ r. params ∷ r ∷ []) (filter (passes tests params) rs)) here in
-      let (group, same, one) = a.grouped.grouping in
-      let long : length group ≡ length found = length_permutation _ group same ∙ ap length all ∙ length-map found (λ r. params ∷ r ∷ []) in
-      let summed = summaries_are group a.grouped.rows (subst (λ groups. AllZip (IsSummary all_counted) groups a.grouped.rows) one a.grouped.summaries) ∙ ap count_rows long in
-      let row : Row = Int (pos (min (length found) 9223372036854775807)) ∷ [] in
-      let staged : a.staged ≡ (params ∷ row ∷ []) ∷ [] = a.grouped.having ∙ ap (λ rs. filter (λ _. true) (map (λ r. params ∷ r ∷ []) rs)) summed in
-      let preserved : a.kept ≡ output q (params ∷ row ∷ []) ∷ [] = a.distinct ∙ ap (map (output q)) staged in
-      let ordered = alone (output q (params ∷ row ∷ [])) a.ordered (subst (λ k. IsPermutation k a.ordered) preserved a.same) in
-      a.shown ∙ ap (λ xs. page q params (map (λ (p : Output). p.1) xs)) ordered
+use Rattle.sql_queries.specs.CountedRecords.{CountsRecords}
 
 -- rows mean as many records as they are
-as_many : {A : Type 0} (means : Row → Option A) (rows : List Row) (was : List A) → all_meanings means rows ≡ Some was → length rows ≡ length was
+pub as_many : {A : Type 0} (means : Row → Option A) (rows : List Row) (was : List A) → all_meanings means rows ≡ Some was → length rows ≡ length was
 as_many means [] was h = let none : [] ≡ was = cc in ap length none
 as_many means (row ∷ rows) was h =
     let each = each_means means row rows was h in

@@ -7,7 +7,8 @@ use Rattle.sql_schema.specs.Contents.{meetings}
 use Rattle.sql_schema.specs.Statements.{HasTables, layout_two}
 use Rattle.sql_lemmas.proofs.Frames.{wide_one}
 use Rattle.sql_lemmas.proofs.Reading.{AsksAs}
-use Rattle.sql_queries.proofs.CountQueries.{IsCount, count_name, counted}
+use Rattle.sql_lemmas.proofs.Counting.{count_name, counted}
+use Rattle.sql_queries.proofs.CountQueries.{IsCount}
 
 abbrev pub meeting_count_text : List ℕ
 meeting_count_text = codes "SELECT COUNT(*) FROM meetings"

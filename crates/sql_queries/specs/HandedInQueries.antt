@@ -219,3 +219,14 @@ cast_on_resolution = record {
   alone = λ schema base. refl;
   holds = λ cells x h. let of = names_cast cells x h in (of.0, of.2);
 }
+
+pub casts_of_meeting
+    : FindsBy casts casts_table first_test HoldMeeting (0 ∷ [])
+    (λ it. it.meeting)
+unfolding understood everything
+casts_of_meeting = record {
+  asks = wide_one (FindsAs casts casts_table first_test (0 ∷ []))
+      (λ others apart indexes views. record { is = refl; plain = (refl, refl); unlisted = refl });
+  alone = λ schema base. refl;
+  holds = λ cells x h. (names_cast cells x h).0;
+}

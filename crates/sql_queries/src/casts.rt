@@ -1,7 +1,7 @@
-//! The votes of a meeting (sections 284 and 322), by the voter and by the resolution.
+//! The votes of a meeting (sections 284 and 322), all, by the voter and by the resolution.
 ghost use Rattle.std.specs.Prelude.{◌≡◌, ◌==◌, ◌&&◌, ◌∷◌, [], IfOk};
 ghost use Rattle.sql_queries.specs.CountedRecords.{CountsRecords};
-ghost use Rattle.sql_queries.specs.HandedInQueries.{cast_by, cast_on_resolution};
+ghost use Rattle.sql_queries.specs.HandedInQueries.{cast_by, cast_on_resolution, casts_of_meeting};
 ghost use Rattle.sql_schema.specs.Contents.{casts};
 ghost use Rattle.sql_schema.specs.Statements.{ChangesNothing, IsRead};
 ghost use Rattle.vocabulary.specs.Names.{same_name};
@@ -48,6 +48,25 @@ impl Query for OnResolution {
     }
 
     ghost finds = { cast_on_resolution };
+}
+
+/// The votes of a meeting.
+pub struct OfMeeting;
+
+impl Query for OfMeeting {
+    type Table = Casts;
+
+    type Key = MeetingId;
+
+    ghost places = { 0 ∷ [] };
+
+    ghost key_of = { λ it. it.meeting };
+
+    fn finding() -> &'static str {
+        casts_text!(finding, "meeting = ?1")
+    }
+
+    ghost finds = { casts_of_meeting };
 }
 
 /// The row of how many votes a voter cast on a resolution in a meeting. An index leads to them, and

@@ -11,6 +11,7 @@ use Rattle.sqlite.specs.Table.{Table}
 use Rattle.sqlite.specs.declared.types.Value.{Value}
 use Rattle.sqlite.specs.declared.types.Value.TheVariants.{Int, Null}
 use Rattle.sql_lemmas.proofs.Adding.{AddsGiven, given_terms}
+use Rattle.sql_lemmas.proofs.Counting.{CountsAs, CountsTable}
 use Rattle.sql_lemmas.proofs.Deleting.{chosen}
 use Rattle.sql_lemmas.proofs.Frames.{RunsOn}
 use Rattle.sql_lemmas.proofs.Listing.{ListsAs, ListsTable}
@@ -64,9 +65,10 @@ pub record Stands (A : Type 0) : Type 0 where
   pub before : Schema
   pub making : List ℕ
 
--- in this schema the texts made of the table show its rows and add one
+-- in this schema the texts made of the table show its rows, count them and add one
 pub record HasTexts {A : Type 0} (it : TableOf A) (declared : Table) (s : Schema) : Type 0 where
   pub lists : ListsAs it declared s
+  pub counts : CountsAs it declared s
   pub adds : AddsGiven layout_two s it declared
 
 -- its own text makes it, and over the tables of a desk those made of it do what they say
@@ -82,6 +84,9 @@ module _ {A : Type 0} {it : Stands A} (stored : IsStored it) where
     none = stored.listed.0;
     numbered = stored.listed.1;
   }
+
+  pub counts_of : CountsTable it.table it.declared
+  counts_of = record { asks = λ s has. (stored.texts s has).counts; none = stored.listed.0 }
 
   pub adds_of : AddsRows it.table it.declared
   adds_of = λ s has. (stored.texts s has).adds

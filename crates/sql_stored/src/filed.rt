@@ -3,6 +3,7 @@
 ghost use Rattle.std.specs.Prelude.{◌≡◌};
 ghost use Rattle.sql_rows.specs.Columns.{in_meeting};
 ghost use Rattle.sql_rows.specs.declared.stored_records.InMeeting.{InMeeting};
+ghost use Rattle.sql_lemmas.proofs.Counting.{counting_text};
 ghost use Rattle.sql_schema.specs.SqlTexts.{adding_text, listing_text};
 ghost use Rattle.sql_schema.specs.Statements.{Adds, CommitsNothing, Does};
 ghost use Rattle.sql_stored.specs.Stored.{IsFiled, Stands};
@@ -24,6 +25,7 @@ pub trait FiledTable {
     fn texts() -> TableTexts
         ensures making { result.making.now ≡ stands.making }
         ensures listing { result.listing.now ≡ listing_text stands.declared }
+        ensures counting { result.counting.now ≡ counting_text stands.declared }
         ensures adding { result.adding.now ≡ adding_text stands.declared };
 
     // The texts do what they say, and its rows keep the parts and mean what is made of them.

@@ -4,11 +4,13 @@ ghost use Rattle.sqlite.specs.Schema.{Schema};
 ghost use Rattle.sqlite.specs.Table.{Table};
 ghost use Rattle.sqlite.specs.Change.{created};
 ghost use Rattle.sqlite.specs.Values.{bound};
+ghost use Rattle.sql_lemmas.proofs.Counting.{CountsTable, counting_text};
 ghost use Rattle.sql_lemmas.proofs.Listing.{ListsTable};
 ghost use Rattle.sql_lemmas.proofs.Making.{MakesTable};
+ghost use Rattle.sql_lemmas.specs.CountedRows.{CountsRows};
 ghost use Rattle.sql_schema.specs.SqlTexts.{adding_text, listing_text};
 ghost use Rattle.sql_schema.specs.Statements.{Adds, ChangesNothing, CommitsNothing, Does, Empties, IsRead, Makes, ReadsTable, TableOf, layout_two};
-ghost use Rattle.sql_stored.specs.Stored.{AddsRows, EmptiesTable, IsRowOf, IsStored, Stands, adds_of, emptying_text, lists_of};
+ghost use Rattle.sql_stored.specs.Stored.{AddsRows, EmptiesTable, IsRowOf, IsStored, Stands, adds_of, counts_of, emptying_text, lists_of};
 
 use sql_rows::FromRow;
 use sqlite::{Alter, Error, Row, Transaction};
@@ -29,6 +31,16 @@ pub trait ListedTable {
 
     // The text does so.
     ghost lists: { ListsTable layout_two table declared };
+}
+
+/// A table whose rows a text counts.
+pub trait CountedTable: ListedTable {
+    /// Shows how many rows there are.
+    fn counting() -> &'static str
+        ensures { result.now ≡ counting_text Self.declared };
+
+    // The text does so.
+    ghost counts: { CountsTable Self.table Self.declared };
 }
 
 /// A table whose rows mean what they read as.
@@ -74,11 +86,13 @@ pub trait EmptiedTable: ListedTable {
     ghost empties: { EmptiesTable Self.table Self.declared };
 }
 
-/// The texts of the statements on a table: that makes it, that shows all rows, and that adds one.
+/// The texts of the statements on a table: that makes it, that shows all rows, that counts them, and
+/// that adds one.
 #[derive(Clone, Copy)]
 pub struct TableTexts {
     pub making: &'static str,
     pub listing: &'static str,
+    pub counting: &'static str,
     pub adding: &'static str,
 }
 
@@ -93,6 +107,7 @@ pub trait StoredTable {
     fn texts() -> TableTexts
         ensures making { result.making.now ≡ stands.making }
         ensures listing { result.listing.now ≡ listing_text stands.declared }
+        ensures counting { result.counting.now ≡ counting_text stands.declared }
         ensures adding { result.adding.now ≡ adding_text stands.declared };
 
     // The texts do what they say.
@@ -111,6 +126,14 @@ impl<T: StoredTable> ListedTable for T {
     }
 
     ghost lists = { lists_of T.stored };
+}
+
+impl<T: StoredTable> CountedTable for T {
+    fn counting() -> &'static str {
+        T::texts().counting
+    }
+
+    ghost counts = { counts_of T.stored };
 }
 
 impl<T: StoredTable> MadeTable for T {
@@ -165,6 +188,17 @@ pub fn all<T: ListedTable, S: Alter>(tx: &mut Transaction<'_, S>) -> Result<Vec<
     ensures changes { ChangesNothing S.Store tx.old.conn.now tx.new.conn.now }
 {
     tx.query_all(T::listing(), &[])
+}
+
+/// The row of how many rows a table has. None of them is shown.
+pub fn row_count<T: CountedTable, S: Alter>(tx: &mut Transaction<'_, S>) -> Result<Vec<Row>, Error>
+    ensures same_reference { tx.new.conn.ghost_name ≡ tx.old.conn.ghost_name }
+    ensures rows { IsRead S.Store tx.old.conn.now tx.new.conn.now
+        → IfOk result
+        (λ rows. CountsRows S.Store tx.old.conn.now tx.new.conn.now T.table rows.items) }
+    ensures changes { ChangesNothing S.Store tx.old.conn.now tx.new.conn.now }
+{
+    tx.query_all(T::counting(), &[])
 }
 
 /// Takes out every row of a table.

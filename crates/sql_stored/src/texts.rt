@@ -8,6 +8,7 @@ macro_rules! table_texts {
         $crate::TableTexts {
             making: $making,
             listing: $crate::listing!($table, $columns, $order),
+            counting: concat!("SELECT COUNT(*) FROM ", $table),
             adding: $crate::adding!($table, $columns, $order, $values),
         }
     };

@@ -9,4 +9,4 @@ of_opened-desk-requires-clause-opened g c = λ clean made.
     stands_if_made (state g.S.Store c.args.conn) (state g.S.Store c.in-Ok.opened) it.0 it.2
     (λ so.
     let for = c.in-Ok.ensures.stands clean it.0 so (it.1.noted (notes_so it.0 (state g.S.Store c.args.conn).now.schema so)) in
-    (c.in-Ok.field-0-1, for.1)) made
+    (for.0, for.2)) made

@@ -14,7 +14,7 @@ returns-in-Ok-clause-opened g c = (
           opened = it.2;
           stands = λ made.
               let for = c.in-Ok.ensures.stands clean it.0 made (it.1.noted (notes_so it.0 (state g.S.Store c.args.conn).now.schema made)) in
-              (c.in-Ok.field-0-1, for.0, for.1);
+              (for.0, for.1, for.2);
         };
     whole = c.in-Ok.ensures.whole;
     settled = c.in-Ok.ensures.settled;

@@ -1,0 +1,27 @@
+use Rattle.std.proofs.Common.{◌≡◌, rules, refl, Err}
+use Rattle.sql_load.proofs.ReadingLemmas.{last, stop, then}
+use Rattle.sql_load.proofs.meeting_lists.read_polled.Goals as goal
+
+pub returns-in_err-presences-clause-read : goal.returns-in_err-presences-clause-read
+returns-in_err-presences-clause-read g c =
+    let is : c.from_residual.result ≡ Err c.in_err-presences.field-0.0 = search rules in
+    stop g.S.Store _ _ _ _ _ _ c.from_residual.result is c.in_err-presences.ensures.read
+
+pub returns-in_err-demands-clause-read : goal.returns-in_err-demands-clause-read
+returns-in_err-demands-clause-read g c =
+    let is : c.from_residual-in_err-demands.result ≡ Err c.in_err-demands.field-0.0 = search rules in
+    then g.S.Store _ _ _ _ _ _ _ _ c.in_ok-presences.ensures.read (stop g.S.Store _ _ _ _ _ _ c.from_residual-in_err-demands.result is c.in_err-demands.ensures.read)
+
+pub returns-in_err-polls-clause-read : goal.returns-in_err-polls-clause-read
+returns-in_err-polls-clause-read g c =
+    let is : c.from_residual-in_err-polls.result ≡ Err c.in_err-polls.field-0.0 = search rules in
+    then g.S.Store _ _ _ _ _ _ _ _ c.in_ok-presences.ensures.read (then g.S.Store _ _ _ _ _ _ _ _ c.in_ok-demands.ensures.read (stop g.S.Store _ _ _ _ _ _ c.from_residual-in_err-polls.result is c.in_err-polls.ensures.read))
+
+pub returns-in_err-casts-clause-read : goal.returns-in_err-casts-clause-read
+returns-in_err-casts-clause-read g c =
+    let is : c.from_residual-in_err-casts.result ≡ Err c.in_err-casts.field-0.0 = search rules in
+    then g.S.Store _ _ _ _ _ _ _ _ c.in_ok-presences.ensures.read (then g.S.Store _ _ _ _ _ _ _ _ c.in_ok-demands.ensures.read (then g.S.Store _ _ _ _ _ _ _ _ c.in_ok-polls.ensures.read (stop g.S.Store _ _ _ _ _ _ c.from_residual-in_err-casts.result is c.in_err-casts.ensures.read)))
+
+pub returns-clause-read : goal.returns-clause-read
+returns-clause-read g c =
+    then g.S.Store _ _ _ _ _ _ _ _ c.in_ok-presences.ensures.read (then g.S.Store _ _ _ _ _ _ _ _ c.in_ok-demands.ensures.read (then g.S.Store _ _ _ _ _ _ _ _ c.in_ok-polls.ensures.read (last g.S.Store _ _ _ _ _ _ _ c.in_ok-casts.ensures.read refl)))

@@ -1,0 +1,144 @@
+-- The office that the tables hold, read meeting by meeting.
+use Rattle.std.specs.Prelude.{false, Bool, ℕ, List, [], ◌∷◌, filter, map, slice_index, Option, Some}
+use Rattle.std.specs.Option.{option_map_or}
+use Rattle.seq.specs.Sorting.{sort_by}
+use Rattle.sqlite.specs.Order.{Row, column}
+use Rattle.sqlite.specs.Tree.{Trees}
+use Rattle.vocabulary.specs.Names.{meeting_of, same_name}
+use Rattle.vocabulary.specs.OptionSteps.{◌>>=◌, guard}
+use Rattle.desk_words.specs.SortedLists.{caller_before, day_before}
+use Rattle.desk_words.specs.declared.caller.KeyRow.{KeyRow}
+use Rattle.desk_words.specs.declared.office.MeetingLists.{MeetingLists}
+use Rattle.desk_words.specs.declared.office.OfficeLists.{OfficeLists}
+use Rattle.sql_rows.specs.ColumnValues.{parsed_of}
+use Rattle.sql_rows.specs.Meanings.{all_meanings}
+use Rattle.sql_rows.specs.declared.stored_records.InMeeting.{InMeeting}
+use Rattle.sql_rows.specs.declared.stored_records.MeetingRow.{MeetingRow}
+use Rattle.sql_schema.specs.Contents as table
+use Rattle.sql_schema.specs.Statements.{TableOf, columns_of, records_in}
+use Rattle.sql_model.specs.OfficeRecords.{are_left_empty}
+use Rattle.sql_assemble.specs.OwnLists.{lists_own}
+use Rattle.sql_assemble.specs.declared.own_records.OwnRecords.{OwnRecords}
+use Rattle.sql_load.specs.MeetingRecords.{without_meeting}
+use Rattle.sql_load.specs.declared.meeting_lists.Called.{Called}
+use Rattle.sql_load.specs.declared.meeting_lists.Given.{Given}
+use Rattle.sql_load.specs.declared.meeting_lists.Polled.{Polled}
+
+-- ---- the rows of a meeting
+
+-- the meeting that a row names in the first of the columns that are shown, if it names one
+abbrev pub meeting_in_row : {A : Type 0} → TableOf A → Row → Option (List ℕ)
+meeting_in_row table row = parsed_of meeting_of (column row (slice_index table.columns 0))
+
+-- the row names that meeting
+abbrev pub is_of : {A : Type 0} → TableOf A → List ℕ → Row → Bool
+is_of table id row = option_map_or (λ name. same_name name id) (meeting_in_row table row) false
+
+-- the rows of a table that name a meeting, in their order, as they are shown
+abbrev pub rows_of_meeting : {A : Type 0} → TableOf A → List ℕ → Trees → List Row
+rows_of_meeting table id trees =
+    map (columns_of table) (filter (is_of table id) (trees table.number))
+
+-- what they mean, without the meeting, or nothing where one of them means nothing
+abbrev pub own_in : {A : Type 0} → TableOf (InMeeting A) → List ℕ → Trees → Option (List A)
+own_in table id trees = do
+  its ← all_meanings table.means (rows_of_meeting table id trees)
+  Some (map without_meeting its)
+
+-- ---- the lists of a meeting, in three parts
+
+-- what a meeting is called with
+abbrev pub called_in : List ℕ → Trees → Option Called
+called_in id trees = do
+  its_sessions ← own_in table.sessions id trees
+  its_resolutions ← own_in table.resolutions id trees
+  its_register ← own_in table.register id trees
+  Some (record { sessions = its_sessions; resolutions = its_resolutions; register = its_register })
+
+-- what its members give
+abbrev pub given_in : List ℕ → Trees → Option Given
+given_in id trees = do
+  its_appointments ← own_in table.appointments id trees
+  its_endings ← own_in table.endings id trees
+  its_authorities ← own_in table.authorities id trees
+  Some (record {
+    appointments = its_appointments;
+    endings = its_endings;
+    authorities = its_authorities;
+  })
+
+-- who is present, what is demanded, and the polls with their votes
+abbrev pub polled_in : List ℕ → Trees → Option Polled
+polled_in id trees = do
+  its_presences ← own_in table.presences id trees
+  its_demands ← own_in table.demands id trees
+  its_polls ← own_in table.polls id trees
+  its_casts ← own_in table.casts id trees
+  Some (record {
+    presences = its_presences;
+    demands = its_demands;
+    polls = its_polls;
+    casts = its_casts;
+  })
+
+-- a meeting with the records of the three parts
+abbrev pub own_of : MeetingRow → Called → Given → Polled → OwnRecords
+own_of row called given polled = record {
+  meeting = row;
+  sessions = called.sessions;
+  resolutions = called.resolutions;
+  register = called.register;
+  appointments = given.appointments;
+  endings = given.endings;
+  authorities = given.authorities;
+  presences = polled.presences;
+  demands = polled.demands;
+  polls = polled.polls;
+  casts = polled.casts;
+}
+
+-- the lists of a meeting, or nothing where one of its rows means nothing, its further sessions are
+-- not numbered 2, 3, .. or its resolutions not 1, 2, ..
+abbrev pub lists_in : MeetingRow → Trees → Option MeetingLists
+lists_in row trees = do
+  called ← called_in row.id trees
+  given ← given_in row.id trees
+  polled ← polled_in row.id trees
+  lists_own (own_of row called given polled)
+
+-- the lists of each meeting
+abbrev pub lists_of_each : List MeetingRow → Trees → Option (List MeetingLists)
+lists_of_each [] trees = Some []
+lists_of_each (row ∷ rest) trees = do
+  first ← lists_in row trees
+  later ← lists_of_each rest trees
+  Some (first ∷ later)
+
+-- ---- the office
+
+-- the keys in the order of callers
+abbrev pub keys_in : Trees → Option (List KeyRow)
+keys_in trees = do
+  rows ← records_in table.keys trees
+  Some (sort_by caller_before rows)
+
+-- the closed days in order
+abbrev pub days_in : Trees → Option (List ℕ)
+days_in trees = do
+  days ← records_in table.closed trees
+  Some (sort_by day_before days)
+
+-- the meetings
+abbrev pub meetings_in : Trees → Option (List MeetingLists)
+meetings_in trees = do
+  rows ← records_in table.meetings trees
+  lists_of_each rows trees
+
+-- the office that the tables hold, where each row of a meeting's names one that stands
+abbrev pub office_by_meetings : Trees → Option OfficeLists
+office_by_meetings trees = do
+  left ← guard (are_left_empty trees)
+  keys ← keys_in trees
+  days ← days_in trees
+  meetings ← meetings_in trees
+  Some (record { keys = keys; closed = days; meetings = meetings })
