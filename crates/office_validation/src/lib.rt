@@ -10,3 +10,4 @@ mod polls;
 
 pub use meetings::meeting_checked;
 pub use office::office_checked;
+pub use polls::are_casts;

@@ -141,7 +141,7 @@ fn cast_few(polls: &[Poll], casts: &Filed<CastMark>) -> bool
 
 /// Whether they are casts on these polls, of which a meeting has `MOST_RESOLUTIONS` at most
 /// (sections 284 and 322).
-pub(crate) fn are_casts(polls: &[Poll], casts: &Filed<CastMark>) -> bool
+pub fn are_casts(polls: &[Poll], casts: &Filed<CastMark>) -> bool
     ensures { result ≡ are_casts polls.now casts.now }
 {
     are_on_started(polls, casts.as_slice()) && cast_few(polls, casts)

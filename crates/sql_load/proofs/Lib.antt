@@ -1,3 +1,4 @@
+pub mod CastPartLemmas
 pub mod CountedRecordLemmas
 pub mod FoundRecordLemmas
 pub mod JudgedLemmas
@@ -5,7 +6,9 @@ pub mod MeetingReadLemmas
 pub mod MeetingRowLemmas
 pub mod NamedMeetingLemmas
 pub mod OrderedMeetingLemmas
+pub mod PassingLemmas
 pub mod PublicRecordLemmas
 pub mod ReadingLemmas
 pub mod StoredOfficeLemmas
 pub mod StoredRowLemmas
+pub mod VoteLemmas

@@ -24,8 +24,8 @@ use Rattle.sql_assemble.specs.declared.fault.LoadError.TheVariants.{NoOffice, St
 use Rattle.sql_assemble.specs.LoadResults.{ReadAgrees, ReadErrAgrees, any_at_all, fault_of_error}
 use Rattle.sql_assemble.proofs.AssembledListLemmas.{second_false}
 use Rattle.sql_schema.specs.Contents as table
-use Rattle.sql_load.specs.Judging.{judged_each, judged_in, judged_lists, rows_judged}
-use Rattle.sql_load.specs.MeetingReading.{lists_in, lists_of_each, meetings_in, own_in, rows_of_meeting}
+use Rattle.sql_load.specs.StoredRows.{counted_on}
+use Rattle.sql_load.specs.MeetingReading.{lists_in, lists_of_each, meetings_in}
 use Rattle.sql_load.specs.MeetingRecords.{without_meeting}
 use Rattle.sql_load.specs.WholeReading.{IsReading}
 use Rattle.sql_load.proofs.ReadingLemmas.{changes_then, last, read_first, read_second, then}
@@ -51,20 +51,20 @@ without_agrees NoOffice said none = λ x h. let it = bound said (λ its. Some (m
 without_agrees Store said none = tt
 without_agrees Memory said none = tt
 
-module _ {S V A : Type 0} (g : store.Ghosts S) (a b : Held S) (rows_in : V → List Row) (it : TableOf (InMeeting A)) (id : List ℕ) where
-  -- these are the rows of the meeting
+module _ {S V A : Type 0} (g : store.Ghosts S) (a b : Held S) (rows_in : V → List Row) (it : TableOf (InMeeting A)) (shown : Trees → List Row) where
+  -- these are the rows that are to be shown
   abbrev AreRows : V → Type 0
-  AreRows v = (rows_in v ≡ rows_of_meeting it id (state g a).now.trees) × IsUnchanged (state g a) (state g b)
+  AreRows v = (rows_in v ≡ shown (state g a).now.trees) × IsUnchanged (state g a) (state g b)
 
   -- what is read of the rows that were found is read of the table
   pub own_read : (rows : Result V Error) → (IsRead g a b → IfOk rows AreRows) → ChangesNothing g a b
       → (found : Result (List (InMeeting A)) LoadError) → MatchResult rows (λ v. ReadAgrees any_at_all found (all_meanings it.means (rows_in v))) (λ e. found ≡ Err (fault_of_error e))
       → (r : Result (List A) LoadError) → MatchResult found (λ them. MatchResult r (λ items. items ≡ map without_meeting them) (λ e. e ≡ Memory)) (λ e. r ≡ Err e)
-      → IsReading g a b any_at_all r (own_in it id)
+      → IsReading g a b any_at_all r (λ trees. all_meanings it.means (shown trees) >>= λ its. Some (map without_meeting its))
   own_read rows finds changes found read_as r made = record { holds = λ read. go rows (finds read) found read_as r made; same = λ read. unchanged rows (finds read) found read_as r made; changes = changes }
     where
       own : Option (List A)
-      own = own_in it id (state g a).now.trees
+      own = all_meanings it.means (shown (state g a).now.trees) >>= λ its. Some (map without_meeting its)
 
       go : (rows : Result V Error) → IfOk rows AreRows → (found : Result (List (InMeeting A)) LoadError) → MatchResult rows (λ v. ReadAgrees any_at_all found (all_meanings it.means (rows_in v))) (λ e. found ≡ Err (fault_of_error e))
           → (r : Result (List A) LoadError) → MatchResult found (λ them. MatchResult r (λ items. items ≡ map without_meeting them) (λ e. e ≡ Memory)) (λ e. r ≡ Err e) → ReadAgrees any_at_all r own
@@ -72,7 +72,7 @@ module _ {S V A : Type 0} (g : store.Ghosts S) (a b : Held S) (rows_in : V → L
           ap (λ o. o >>= λ its. Some (map without_meeting its)) (sym (ap (all_meanings it.means) are.0) ∙ h) ∙ ap (λ l. Some l) (sym made)
       go (Ok v) are (Ok them) h (Err e) made = subst (λ f. ReadErrAgrees any_at_all f own) (sym made) tt
       go (Ok v) are (Err e) h r made =
-          subst (λ q. ReadAgrees any_at_all q own) (sym made) (without_agrees e (all_meanings it.means (rows_of_meeting it id (state g a).now.trees)) (subst (λ l. ReadErrAgrees any_at_all e (all_meanings it.means l)) are.0 h))
+          subst (λ q. ReadAgrees any_at_all q own) (sym made) (without_agrees e (all_meanings it.means (shown (state g a).now.trees)) (subst (λ l. ReadErrAgrees any_at_all e (all_meanings it.means l)) are.0 h))
       go (Err e) are (Ok them) h r made = absurd cc
       go (Err e) are (Err f) h r made =
           let same : f ≡ fault_of_error e = cc in
@@ -125,6 +125,20 @@ module _ {S : Type 0} (g : store.Ghosts S) where
     -- where it is judged, a fault of its reading is one of the judgement
     pub judged_stop : {Y : Type 0} (made : X → Y) (e : LoadError) (r : Result Y LoadError) → r ≡ Err e → IsReading g a b right (Err e) said → IsReading g a b any_at_all r (λ trees. said trees >>= λ x. guard (right x) >>= λ _. Some (made x))
     judged_stop made = stop_by a b right any_at_all said (λ x _. guard (right x) >>= λ _. Some (made x)) (λ x trees wrong y h. let it = bound (guard (right x)) (λ _. Some (made x)) y h in absurd (true≢false (sym (guarded (right x) it.0 it.1) ∙ wrong)))
+
+  -- where a part that is read is not right, and so the whole is not
+  pub stop_held : {X Y : Type 0} (a b : Held S) (some : X → Bool) (right : Y → Bool) (said : Trees → Option X) (next : X → Trees → Option Y) → ((trees : Trees) (x : X) → said trees ≡ Some x → some x ≡ false → (y : Y) → next x trees ≡ Some y → right y ≡ false)
+      → (e : LoadError) (r : Result Y LoadError) → r ≡ Err e → IsReading g a b some (Err e) said → IsReading g a b right r (λ trees. said trees >>= λ x. next x trees)
+  stop_held {Y = Y} a b some right said next leads e r is one = subst (λ (q : Result Y LoadError). IsReading g a b right q (λ trees. said trees >>= λ x. next x trees)) (sym is) (record {
+    holds = λ read. go e (state g a).now.trees (one.holds read);
+    same = λ _. tt;
+    changes = one.changes;
+  })
+    where
+      go : (e : LoadError) (trees : Trees) → ReadErrAgrees some e (said trees) → ReadErrAgrees right e (said trees >>= λ x. next x trees)
+      go NoOffice trees none = λ y h. let it = bound (said trees) (λ x. next x trees) y h in leads trees it.0 it.1 (none it.0 it.1) y it.2
+      go Store trees none = tt
+      go Memory trees none = tt
 
   -- a fault after a reading, where it is one of the whole
   pub stop_within : {X Y Z : Type 0} (a b c : Held S) (some : Y → Bool) (right : Z → Bool) (x : X) (e : LoadError) (r : Result Z LoadError) (said : Trees → Option X) (next : Trees → Option Y) (whole : Trees → Option Z)
@@ -199,57 +213,57 @@ module _ {S : Type 0} (g : store.Ghosts S) (a b : Held S) (rows : List MeetingRo
       stop_within g a b c is_meeting (list_all is_meeting) all e r (first_lists rows i) (lists_in m) meetings_in
       (λ read none. subst (λ o. ReadErrAgrees (list_all is_meeting) e (o >>= λ l. lists_of_each l (state g a).now.trees)) (sym (held read)) (one_agrees rows i m less is e (state g a).now.trees none)) failed
 
--- ---- the judgement of each meeting
+-- ---- what is judged and counted of each of some things
 
--- that of the first meetings, of rows that are these
-abbrev pub first_judged : List MeetingRow → ℕ → Trees → Option ℕ
-first_judged rows i trees = rows_judged trees >>= λ _. judged_each (take i rows) trees
-
-pub judged_more : (rows : List MeetingRow) (m : MeetingRow) → ◌≡◌ {A = Trees → Option ℕ} (λ trees. judged_each rows trees >>= λ count. judged_in m trees >>= λ its. Some (count + its)) (judged_each (rows ++ m ∷ []))
-judged_more [] m = λ i trees. alone (judged_in m trees) i
+counted_more : {X : Type 0} (its : X → Trees → Option ℕ) (xs : List X) (x : X) (n : ℕ) (trees : Trees) → (counted_on its xs n trees >>= λ count. its x trees >>= λ more. Some (count + more)) ≡ counted_on its (xs ++ x ∷ []) n trees
+counted_more its [] x n trees = refl
+counted_more its (y ∷ ys) x n trees = go (its y trees) (λ k. counted_more its ys x (n + k) trees)
   where
-    alone : (o : Option ℕ) → (o >>= λ its. Some (0 + its)) ≡ (o >>= λ first. Some (first + 0))
-    alone (Some its) = let same : 0 + its ≡ its + 0 = omega arith in ap (λ n. Some n) same
-    alone None = refl
-judged_more (row ∷ rows) m = λ i trees. go (judged_in row trees) (judged_each rows trees) (judged_in m trees) (λ j. judged_more rows m j trees) i
-  where
-    go : (first later last : Option ℕ) {more : Option ℕ} → (later >>= λ count. last >>= λ its. Some (count + its)) ≡ more
-        → ((first >>= λ f. later >>= λ l. Some (f + l)) >>= λ count. last >>= λ its. Some (count + its)) ≡ (first >>= λ f. more >>= λ l. Some (f + l))
-    go (Some f) (Some l) (Some x) is = let same : f + l + x ≡ f + (l + x) = omega arith in rw (← is) (ap (λ n. Some n) same)
-    go (Some f) (Some l) None is = rw (← is) refl
-    go (Some f) None last is = rw (← is) refl
-    go None later last is = refl
+    go : (o : Option ℕ) → ((k : ℕ) → (counted_on its ys (n + k) trees >>= λ count. its x trees >>= λ more. Some (count + more)) ≡ counted_on its (ys ++ x ∷ []) (n + k) trees) → ((o >>= λ k. counted_on its ys (n + k) trees) >>= λ count. its x trees >>= λ more. Some (count + more)) ≡ (o >>= λ k. counted_on its (ys ++ x ∷ []) (n + k) trees)
+    go (Some k) rest = rest k
+    go None rest = refl
 
--- where one is judged to be wrong, all are
-one_judged : (rows : List MeetingRow) (i : ℕ) (m : MeetingRow) → i < length rows → m ≡ get_or rows i m → (trees : Trees) (count : ℕ) → judged_each rows trees ≡ Some count → (its : ℕ) × (judged_in m trees ≡ Some its)
-one_judged [] i m less is trees count h = absurd (omega arith)
-one_judged (next ∷ rows) zero m less is trees count h = let first = bound (judged_in next trees) _ count h in (first.0, ap (λ r. judged_in r trees) is ∙ first.1)
-one_judged (next ∷ rows) (suc i) m less is trees count h =
-    let first = bound (judged_in next trees) _ count h in
-    let later = bound (judged_each rows trees) _ count first.2 in
-    one_judged rows i m (omega (arith, less)) is trees later.0 later.1
+one_counted : {X : Type 0} (its : X → Trees → Option ℕ) (xs : List X) (i : ℕ) (x : X) → i < length xs → x ≡ get_or xs i x → (trees : Trees) (n count : ℕ) → counted_on its xs n trees ≡ Some count → (k : ℕ) × (its x trees ≡ Some k)
+one_counted its [] i x less is trees n count h = absurd (omega arith)
+one_counted its (y ∷ ys) zero x less is trees n count h = let first = bound (its y trees) _ count h in (first.0, ap (λ z. its z trees) is ∙ first.1)
+one_counted its (y ∷ ys) (suc i) x less is trees n count h =
+    let first = bound (its y trees) _ count h in
+    one_counted its ys i x (omega (arith, less)) is trees (n + first.0) count first.2
 
-judged_agrees : (rows : List MeetingRow) (i : ℕ) (m : MeetingRow) → i < length rows → m ≡ get_or rows i m → (e : LoadError) (trees : Trees) → ReadErrAgrees any_at_all e (judged_in m trees) → ReadErrAgrees any_at_all e (judged_each rows trees)
-judged_agrees rows i m less is NoOffice trees none = λ count h. let its = one_judged rows i m less is trees count h in none its.0 its.1
-judged_agrees rows i m less is Store trees none = tt
-judged_agrees rows i m less is Memory trees none = tt
+counted_agrees : {X : Type 0} (its : X → Trees → Option ℕ) (xs : List X) (i : ℕ) (x : X) → i < length xs → x ≡ get_or xs i x → (n : ℕ) (e : LoadError) (trees : Trees) → ReadErrAgrees any_at_all e (its x trees) → ReadErrAgrees any_at_all e (counted_on its xs n trees)
+counted_agrees its xs i x less is n NoOffice trees none = λ count h. let k = one_counted its xs i x less is trees n count h in none k.0 k.1
+counted_agrees its xs i x less is n Store trees none = tt
+counted_agrees its xs i x less is n Memory trees none = tt
 
-module _ {S : Type 0} (g : store.Ghosts S) (a b c : Held S) (rows : List MeetingRow) (i : ℕ) (m : MeetingRow) (count : ℕ) (one : IsReading g a b any_at_all (Ok count) (first_judged rows i)) where
-  pub judged_turn : (its sum : ℕ) → sum ≡ count + its → take (i + 1) rows ≡ take i rows ++ m ∷ [] → IsReading g b c any_at_all (Ok its) (judged_in m) → IsReading g a c any_at_all (Ok sum) (first_judged rows (i + 1))
-  judged_turn its sum is next two =
-      said_same g a c any_at_all (Ok sum) (λ trees. first_judged rows i trees >>= λ n. judged_in m trees >>= λ k. Some (n + k)) (first_judged rows (i + 1))
-      (λ read. go (rows_judged (state g a).now.trees) ((λ j. judged_more (take i rows) m j (state g a).now.trees) ∙ ap (λ l. judged_each l (state g a).now.trees) (sym next)))
-      (then g a b c any_at_all count (Ok sum) (first_judged rows i) (λ n trees. judged_in m trees >>= λ k. Some (n + k)) one (last g b c any_at_all its (Ok sum) (judged_in m) (λ k. Some (count + k)) two (ap (λ n. Some n) (sym is))))
+-- those of the first of the things, behind what was read before
+abbrev pub first_counted : {X Z : Type 0} → (Trees → Option Z) → (X → Trees → Option ℕ) → List X → ℕ → ℕ → Trees → Option ℕ
+first_counted before its xs n i trees = before trees >>= λ _. counted_on its (take i xs) n trees
+
+module _ {S X Z : Type 0} (g : store.Ghosts S) (a b c : Held S) (before : Trees → Option Z) (its : X → Trees → Option ℕ) (xs : List X) (n i : ℕ) (x : X) (count : ℕ) (one : IsReading g a b any_at_all (Ok count) (first_counted before its xs n i)) where
+  pub counted_turn : (more sum : ℕ) → sum ≡ count + more → take (i + 1) xs ≡ take i xs ++ x ∷ [] → IsReading g b c any_at_all (Ok more) (its x) → IsReading g a c any_at_all (Ok sum) (first_counted before its xs n (i + 1))
+  counted_turn more sum is next two =
+      said_same g a c any_at_all (Ok sum) (λ trees. first_counted before its xs n i trees >>= λ m. its x trees >>= λ k. Some (m + k)) (first_counted before its xs n (i + 1))
+      (λ read. go (before (state g a).now.trees) (counted_more its (take i xs) x n (state g a).now.trees ∙ ap (λ l. counted_on its l n (state g a).now.trees) (sym next)))
+      (then g a b c any_at_all count (Ok sum) (first_counted before its xs n i) (λ m trees. its x trees >>= λ k. Some (m + k)) one (last g b c any_at_all more (Ok sum) (its x) (λ k. Some (count + k)) two (ap (λ m. Some m) (sym is))))
     where
       trees : Trees
       trees = (state g a).now.trees
 
-      go : (o : Option (List MeetingRow)) → (judged_each (take i rows) trees >>= λ n. judged_in m trees >>= λ k. Some (n + k)) ≡ judged_each (take (i + 1) rows) trees
-          → ((o >>= λ _. judged_each (take i rows) trees) >>= λ n. judged_in m trees >>= λ k. Some (n + k)) ≡ (o >>= λ _. judged_each (take (i + 1) rows) trees)
-      go (Some r) is = is
+      go : (o : Option Z) → (counted_on its (take i xs) n trees >>= λ m. its x trees >>= λ k. Some (m + k)) ≡ counted_on its (take (i + 1) xs) n trees
+          → ((o >>= λ _. counted_on its (take i xs) n trees) >>= λ m. its x trees >>= λ k. Some (m + k)) ≡ (o >>= λ _. counted_on its (take (i + 1) xs) n trees)
+      go (Some z) is = is
       go None is = refl
 
-  pub judged_fault : (e : LoadError) (r : Result ℕ LoadError) → i < length rows → m ≡ get_or rows i m → (IsRead g a b → rows_judged (state g a).now.trees ≡ Some rows) → r ≡ Err e → IsReading g b c any_at_all (Err e) (judged_in m) → IsReading g a c any_at_all r judged_lists
-  judged_fault e r less is held failed_as failed =
-      stop_within g a b c any_at_all any_at_all count e r (first_judged rows i) (judged_in m) judged_lists
-      (λ read none. subst (λ o. ReadErrAgrees any_at_all e (o >>= λ l. judged_each l (state g a).now.trees)) (sym (held read)) (judged_agrees rows i m less is e (state g a).now.trees none)) failed_as one failed
+  pub counted_fault : (z : Z) (whole : Z → Trees → Option ℕ) (e : LoadError) (r : Result ℕ LoadError) → i < length xs → x ≡ get_or xs i x → (IsRead g a b → before (state g a).now.trees ≡ Some z) → ((trees : Trees) → whole z trees ≡ counted_on its xs n trees) → r ≡ Err e
+      → IsReading g b c any_at_all (Err e) (its x) → IsReading g a c any_at_all r (λ trees. before trees >>= λ y. whole y trees)
+  counted_fault z whole e r less is held same failed_as failed =
+      stop_within g a b c any_at_all any_at_all count e r (first_counted before its xs n i) (its x) (λ trees. before trees >>= λ y. whole y trees)
+      (λ read none. subst (λ o. ReadErrAgrees any_at_all e (o >>= λ y. whole y (state g a).now.trees)) (sym (held read)) (subst (ReadErrAgrees any_at_all e) (sym (same (state g a).now.trees)) (counted_agrees its xs i x less is n e (state g a).now.trees none))) failed_as one failed
+
+-- those of all of them
+pub counted_whole : {S X Z : Type 0} (g : store.Ghosts S) (a b : Held S) (before : Trees → Option Z) (its : X → Trees → Option ℕ) (xs : List X) (n : ℕ) (count : ℕ) (z : Z) (whole : Z → Trees → Option ℕ)
+    → (IsRead g a b → before (state g a).now.trees ≡ Some z) → ((trees : Trees) → whole z trees ≡ counted_on its xs n trees) → (i : ℕ) → take i xs ≡ xs → IsReading g a b any_at_all (Ok count) (first_counted before its xs n i)
+    → IsReading g a b any_at_all (Ok count) (λ trees. before trees >>= λ y. whole y trees)
+counted_whole g a b before its xs n count z whole held same i all one =
+    said_same g a b any_at_all (Ok count) (first_counted before its xs n i) (λ trees. before trees >>= λ y. whole y trees)
+    (λ read. ap (λ o. o >>= λ _. counted_on its (take i xs) n (state g a).now.trees) (held read) ∙ ap (λ l. counted_on its l n (state g a).now.trees) all ∙ sym (same (state g a).now.trees) ∙ ap (λ o. o >>= λ y. whole y (state g a).now.trees) (sym (held read))) one

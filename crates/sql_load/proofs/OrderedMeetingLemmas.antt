@@ -1,6 +1,7 @@
 -- The lists of a meeting that were read have their register in the order of members, so that they are judged as they are.
-use Rattle.std.proofs.Common.{◌≡◌, ℕ, Bool, true, false, if◌then◌else◌, List, [], ◌∷◌, map, Option, Some, None, Ok, Err, Result, refl, sym, ap, subst, ◌∙◌}
-use Rattle.std.specs.Prelude.{IsPermutation, MatchResult}
+use Rattle.std.proofs.Common.{◌≡◌, ℕ, Bool, true, false, if◌then◌else◌, List, [], ◌∷◌, map, Some, None, refl, sym, ap, subst, ◌∙◌, true≢false, inl, inr}
+use Rattle.std.specs.Prelude.{IsPermutation}
+use Rattle.std.proofs.lemmas.Bool.{cases_Bool}
 use Rattle.std.specs.List.{list_all}
 use Rattle.std.specs.Cmp.{first_so, second_so}
 use Rattle.std.specs.Cmp.Lexicographic.{nat_list_cmp_total}
@@ -9,23 +10,23 @@ use Rattle.sqlite.specs.Tree.{Trees}
 use Rattle.seq.specs.Sorting.{sort_by}
 use Rattle.seq.proofs.SortingLemmas.{IsPermutation-sort_by, sort_by-ascending}
 use Rattle.vocabulary.specs.OptionSteps.{◌>>=◌, guard}
-use Rattle.desk_words.specs.Office.{is_meeting, is_office}
+use Rattle.desk_words.specs.Office.{are_casts, is_meeting, is_office}
 use Rattle.desk_words.specs.Registers.{member_before}
 use Rattle.desk_words.specs.declared.office.MeetingLists.{MeetingLists}
+use Rattle.desk_words.specs.declared.records.CastMark.{CastMark}
 use Rattle.desk_words.specs.declared.records.RegisterRow.{RegisterRow}
 use Rattle.desk_words.specs.declared.office.OfficeLists.{OfficeLists}
-use Rattle.desk_words.proofs.OfficeFacts.{meeting_facts, office_facts, register_ascends}
+use Rattle.desk_words.proofs.OfficeFacts.{meeting_facts, meeting_from_facts, office_facts, register_ascends}
 use Rattle.sql_rows.specs.declared.stored_records.MeetingRow.{MeetingRow}
 use Rattle.sql_rows.proofs.RowMeaningLemmas.{bound}
+use Rattle.sql_schema.specs.Contents.{casts}
 use Rattle.sql_model.proofs.FlatChanges.{some_is}
 use Rattle.sql_model.proofs.ModelListLemmas.{sort_by-sorted}
-use Rattle.sql_assemble.specs.LoadResults.{ReadAgrees, ReadErrAgrees, any_at_all}
 use Rattle.sql_assemble.specs.OwnLists.{resolutions_own, sessions_own}
-use Rattle.sql_assemble.specs.declared.fault.LoadError.{LoadError}
-use Rattle.sql_assemble.specs.declared.fault.LoadError.TheVariants.{Memory}
 use Rattle.office_validation.specs.Validation.{in_order, meeting_checked, office_in_order}
-use Rattle.sql_load.specs.MeetingReading.{called_in, given_in, lists_in, polled_in}
-use Rattle.sql_load.specs.StoredRows.{rows_of}
+use Rattle.sql_load.specs.MeetingReading.{but_votes, called_in, given_in, own_in, polled_in}
+use Rattle.sql_load.specs.StoredRows.{rows_but_votes}
+use Rattle.sql_load.specs.declared.judging.Judged.{Judged}
 use Rattle.sql_load.proofs.MeetingReadLemmas.{guarded}
 
 -- a meeting's lists are those once the register is in order
@@ -68,7 +69,7 @@ unchecked_so m h = go (is_meeting (in_order m)) h
     go true h = absurd cc
     go false h = refl
 
-register_in : (row : MeetingRow) (trees : Trees) (lists : MeetingLists) → lists_in row trees ≡ Some lists → (rows : List RegisterRow) × (lists.register ≡ sort_by member_before rows)
+register_in : (row : MeetingRow) (trees : Trees) (lists : MeetingLists) → but_votes row trees ≡ Some lists → (rows : List RegisterRow) × (lists.register ≡ sort_by member_before rows)
 register_in row trees lists h =
     let called = bound (called_in row.id trees) _ lists h in
     let given = bound (given_in row.id trees) _ lists called.2 in
@@ -77,24 +78,66 @@ register_in row trees lists h =
     let resolutions = bound (resolutions_own called.0.resolutions) _ lists later.2 in
     (called.0.register, ap (λ (x : MeetingLists). x.register) (sym (some_is resolutions.2)))
 
+abbrev pub judged_as : MeetingLists → Judged
+judged_as lists = record { rows = rows_but_votes lists; polls = lists.polls }
+
 -- lists that were read and are right once they are in order are right, and in order
-pub judged_right : (row : MeetingRow) (trees : Trees) (lists x : MeetingLists) → lists_in row trees ≡ Some lists → Some x ≡ meeting_checked lists → (count : ℕ) → count ≡ rows_of x → (guard (is_meeting lists) >>= λ _. Some (rows_of lists)) ≡ Some count
+pub judged_right : (row : MeetingRow) (trees : Trees) (lists x : MeetingLists) → but_votes row trees ≡ Some lists → Some x ≡ meeting_checked lists → (count : ℕ) → count ≡ rows_but_votes x → (guard (is_meeting lists) >>= λ _. Some (judged_as lists)) ≡ Some (record { rows = count; polls = x.polls })
 judged_right row trees lists x h checked count is =
     let so = checked_so lists x checked in
     let was = register_in row trees lists h in
     let same = meeting_stays lists was.0 was.1 so in
     let right : is_meeting lists ≡ true = subst (λ m. is_meeting m ≡ true) same so in
     let ordered : x ≡ lists = some_is (checked ∙ checked_is lists so) ∙ same in
-    ap (λ b. guard b >>= λ _. Some (rows_of lists)) right ∙ ap (λ m. Some (rows_of m)) (sym ordered) ∙ ap (λ n. Some n) (sym is)
+    ap (λ b. guard b >>= λ _. Some (judged_as lists)) right ∙ ap (λ m. Some (judged_as m)) (sym ordered) ∙ ap (λ n. Some (record { rows = n; polls = x.polls })) (sym is)
 
 -- and those that are not are not
-pub judged_wrong : (lists : MeetingLists) → None ≡ meeting_checked lists → (count : ℕ) → (guard (is_meeting lists) >>= λ _. Some (rows_of lists)) ≡ Some count → true ≡ false
-judged_wrong lists unchecked count h =
-    let it = bound (guard (is_meeting lists)) (λ _. Some (rows_of lists)) count h in
+pub judged_wrong : (lists : MeetingLists) → None ≡ meeting_checked lists → (x : Judged) → (guard (is_meeting lists) >>= λ _. Some (judged_as lists)) ≡ Some x → true ≡ false
+judged_wrong lists unchecked x h =
+    let it = bound (guard (is_meeting lists)) (λ _. Some (judged_as lists)) x h in
     let so = guarded (is_meeting lists) it.0 it.1 in
     sym (subst (λ m. is_meeting m ≡ true) (sym (meeting_ordered lists so)) so) ∙ unchecked_so lists unchecked
 
--- where the rows that they are were counted
-pub counted_right : (r : Result ℕ LoadError) (x : MeetingLists) (said : Option ℕ) → MatchResult r (λ count. count ≡ rows_of x) (λ fault. fault ≡ Memory) → ((count : ℕ) → count ≡ rows_of x → said ≡ Some count) → ReadAgrees any_at_all r said
-counted_right (Ok count) x said is so = so count is
-counted_right (Err e) x said is so = subst (λ f. ReadErrAgrees any_at_all f said) (sym is) tt
+-- ---- the votes of a meeting that was read
+
+-- there are none yet
+pub no_votes : (row : MeetingRow) (trees : Trees) (lists : MeetingLists) → but_votes row trees ≡ Some lists → lists.casts ≡ []
+no_votes row trees lists h =
+    let called = bound (called_in row.id trees) _ lists h in
+    let given = bound (given_in row.id trees) _ lists called.2 in
+    let polled = bound (polled_in row.id trees) _ lists given.2 in
+    let later = bound (sessions_own called.0.sessions) _ lists polled.2 in
+    let resolutions = bound (resolutions_own called.0.resolutions) _ lists later.2 in
+    ap (λ (x : MeetingLists). x.casts) (sym (some_is resolutions.2))
+
+-- with other votes the lists are a meeting's where these could be cast on its polls
+pub with_votes : (lists : MeetingLists) (votes : List CastMark) → is_meeting lists ≡ true → are_casts lists.polls votes ≡ true → is_meeting (record lists { casts = votes }) ≡ true
+with_votes lists votes h cast =
+    let facts = meeting_facts lists h in
+    meeting_from_facts (record lists { casts = votes }) (record {
+      resolutions = facts.resolutions;
+      sessions = facts.sessions;
+      loaded = facts.loaded;
+      appointments = facts.appointments;
+      endings = facts.endings;
+      authorities = facts.authorities;
+      presences = facts.presences;
+      demands = facts.demands;
+      polls = facts.polls;
+      casts = cast;
+    })
+
+-- so lists that are none without votes are none with any
+pub votes_lead : (row : MeetingRow) (trees : Trees) (lists : MeetingLists) → but_votes row trees ≡ Some lists → is_meeting lists ≡ false → (votes : List CastMark) → is_meeting (record lists { casts = votes }) ≡ false
+votes_lead row trees lists h wrong votes =
+    elim (cases_Bool (is_meeting (record lists { casts = votes }))) [
+      | inl good ↦
+          let bare : is_meeting (record lists { casts = [] }) ≡ true = with_votes (record lists { casts = votes }) [] good refl in
+          absurd (true≢false (sym bare ∙ ap (λ l. is_meeting (record lists { casts = l })) (sym (no_votes row trees lists h)) ∙ wrong))
+      | inr other ↦ other
+    ]
+
+pub whole_wrong : (row : MeetingRow) (trees : Trees) (x : MeetingLists) → but_votes row trees ≡ Some x → is_meeting x ≡ false → (y : MeetingLists) → (own_in casts row.id trees >>= λ votes. Some (record x { casts = votes })) ≡ Some y → is_meeting y ≡ false
+whole_wrong row trees x held wrong y h =
+    let votes = bound (own_in casts row.id trees) (λ votes. Some (record x { casts = votes })) y h in
+    ap is_meeting (sym (some_is votes.2)) ∙ votes_lead row trees x held wrong votes.0

@@ -1,5 +1,5 @@
 -- Whether the tables hold an office, judged meeting by meeting.
-use Rattle.std.specs.Prelude.{◌≡◌, ◌==◌, ◌+◌, ℕ, Bool, false, ◌&&◌, List, [], ◌∷◌, length, nat_le, Option, Some, Result, Err, OnOk, IsTrue}
+use Rattle.std.specs.Prelude.{◌≡◌, ◌==◌, ℕ, Bool, false, ◌&&◌, List, length, nat_le, Option, Some, Result, Err, OnOk, IsTrue}
 use Rattle.seq.specs.Ordered.{differ_by}
 use Rattle.sqlite.specs.Held.{Held, state}
 use Rattle.sqlite.specs.State.{IsUnchanged}
@@ -17,8 +17,10 @@ use Rattle.sql_schema.specs.Statements.{ChangesNothing, IsRead, records_in}
 use Rattle.sql_model.specs.OfficeRecords.{are_left_empty, office_in}
 use Rattle.sql_assemble.specs.declared.fault.LoadError.{LoadError}
 use Rattle.sql_assemble.specs.declared.fault.LoadError.TheVariants.{NoOffice}
-use Rattle.sql_load.specs.MeetingReading.{days_in, keys_in, lists_in}
-use Rattle.sql_load.specs.StoredRows.{rows_of, stored_rows}
+use Rattle.sql_load.specs.MeetingReading.{but_votes, days_in, keys_in}
+use Rattle.sql_load.specs.StoredRows.{counted_on, rows_but_votes, stored_rows}
+use Rattle.sql_load.specs.Votes.{judged_votes}
+use Rattle.sql_load.specs.declared.judging.Judged.{Judged}
 
 -- both meetings have one name
 abbrev pub same_meeting_row : MeetingRow → MeetingRow → Bool
@@ -47,26 +49,24 @@ rows_judged trees = do
   right ← guard (are_meeting_rows rows)
   Some rows
 
--- the lists of a meeting are such; how many rows they are
+-- the lists of a meeting are such but its votes; how many rows they are, and its polls
+abbrev pub judged_but_votes : MeetingRow → Trees → Option Judged
+judged_but_votes row trees = do
+  lists ← but_votes row trees
+  right ← guard (is_meeting lists)
+  Some (record { rows = rows_but_votes lists; polls = lists.polls })
+
+-- and the votes on each of its polls are such; how many rows they all are
 abbrev pub judged_in : MeetingRow → Trees → Option ℕ
 judged_in row trees = do
-  lists ← lists_in row trees
-  right ← guard (is_meeting lists)
-  Some (rows_of lists)
-
--- and those of each meeting
-abbrev pub judged_each : List MeetingRow → Trees → Option ℕ
-judged_each [] trees = Some 0
-judged_each (row ∷ rest) trees = do
-  first ← judged_in row trees
-  later ← judged_each rest trees
-  Some (first + later)
+  its ← judged_but_votes row trees
+  counted_on (judged_votes row.id) its.polls its.rows trees
 
 -- the meetings are those of an office; how many rows their lists are
 abbrev pub judged_lists : Trees → Option ℕ
 judged_lists trees = do
   rows ← rows_judged trees
-  judged_each rows trees
+  counted_on judged_in rows 0 trees
 
 -- and no row names another
 abbrev pub judged_meetings : Trees → Option (Unit {0})

@@ -67,21 +67,15 @@ given_in id trees = do
     authorities = its_authorities;
   })
 
--- who is present, what is demanded, and the polls with their votes
+-- who is present, what is demanded, and the polls
 abbrev pub polled_in : List ℕ → Trees → Option Polled
 polled_in id trees = do
   its_presences ← own_in table.presences id trees
   its_demands ← own_in table.demands id trees
   its_polls ← own_in table.polls id trees
-  its_casts ← own_in table.casts id trees
-  Some (record {
-    presences = its_presences;
-    demands = its_demands;
-    polls = its_polls;
-    casts = its_casts;
-  })
+  Some (record { presences = its_presences; demands = its_demands; polls = its_polls })
 
--- a meeting with the records of the three parts
+-- a meeting with the records of the three parts, and no votes
 abbrev pub own_of : MeetingRow → Called → Given → Polled → OwnRecords
 own_of row called given polled = record {
   meeting = row;
@@ -94,17 +88,24 @@ own_of row called given polled = record {
   presences = polled.presences;
   demands = polled.demands;
   polls = polled.polls;
-  casts = polled.casts;
+  casts = [];
 }
 
--- the lists of a meeting, or nothing where one of its rows means nothing, its further sessions are
--- not numbered 2, 3, .. or its resolutions not 1, 2, ..
-abbrev pub lists_in : MeetingRow → Trees → Option MeetingLists
-lists_in row trees = do
+-- the lists of a meeting but its votes, or nothing where one of its rows means nothing, its further
+-- sessions are not numbered 2, 3, .. or its resolutions not 1, 2, ..
+abbrev pub but_votes : MeetingRow → Trees → Option MeetingLists
+but_votes row trees = do
   called ← called_in row.id trees
   given ← given_in row.id trees
   polled ← polled_in row.id trees
   lists_own (own_of row called given polled)
+
+-- the lists of a meeting with its votes
+abbrev pub lists_in : MeetingRow → Trees → Option MeetingLists
+lists_in row trees = do
+  lists ← but_votes row trees
+  votes ← own_in table.casts row.id trees
+  Some (record lists { casts = votes })
 
 -- the lists of each meeting
 abbrev pub lists_of_each : List MeetingRow → Trees → Option (List MeetingLists)

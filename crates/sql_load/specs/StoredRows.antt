@@ -1,7 +1,8 @@
 -- How many rows the tables have whose rows name a meeting, and how many of them a meeting's lists are.
-use Rattle.std.specs.Prelude.{ℕ, ◌+◌, length}
+use Rattle.std.specs.Prelude.{ℕ, ◌+◌, List, [], ◌∷◌, length, Option, Some}
 use Rattle.sqlite.specs.Tree.{Trees}
 use Rattle.desk_words.specs.declared.office.MeetingLists.{MeetingLists}
+use Rattle.vocabulary.specs.OptionSteps.{◌>>=◌}
 use Rattle.sql_schema.specs.Contents as table
 use Rattle.sql_schema.specs.Statements.{TableOf}
 
@@ -30,9 +31,17 @@ with_polled count trees =
 abbrev pub stored_rows : Trees → ℕ
 stored_rows trees = with_polled (with_given (called_rows trees) trees) trees
 
--- the rows that a meeting's lists are
-abbrev pub rows_of : MeetingLists → ℕ
-rows_of m =
+-- the rows that a meeting's lists are, but those of its votes
+abbrev pub rows_but_votes : MeetingLists → ℕ
+rows_but_votes m =
     length m.meeting.later + length m.meeting.resolutions + length m.register
     + length m.appointments + length m.endings + length m.authorities
-    + length m.presences + length m.demands + length m.polls + length m.casts
+    + length m.presences + length m.demands + length m.polls
+
+-- so many, and those of each of these things, one after the other, or nothing where there is nothing
+-- of one
+abbrev pub counted_on : {X : Type 0} → (X → Trees → Option ℕ) → List X → ℕ → Trees → Option ℕ
+counted_on its [] count trees = Some count
+counted_on its (x ∷ rest) count trees = do
+  more ← its x trees
+  counted_on its rest (count + more) trees

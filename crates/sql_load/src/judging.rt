@@ -1,25 +1,27 @@
 //! Whether the tables hold an office. The lists of one meeting are read, judged and dropped after
-//! those of another, so that it takes the memory of the fullest.
+//! those of another, and the votes on one of its polls after those on another, so that it takes the
+//! memory of the fullest.
 ghost use Rattle.std.specs.Prelude.{◌≡◌, ◌==◌, MatchResult, count_by, nat_le};
 ghost use Rattle.std.specs.List.{list_all};
 ghost use Rattle.vocabulary.specs.OptionSteps.{guard};
 ghost use Rattle.seq.specs.Ordered.{differ_by};
 ghost use Rattle.sql_assemble.specs.LoadResults.{any_at_all};
 ghost use Rattle.sql_assemble.specs.declared.fault.LoadError.TheVariants.{Memory};
-ghost use Rattle.sql_load.specs.Judging.{IsJudged, are_meeting_rows, judged_days, judged_in};
-ghost use Rattle.sql_load.specs.Judging.{judged_keys, judged_lists, judged_meetings, judged_office};
+ghost use Rattle.sql_load.specs.Judging.{IsJudged, are_meeting_rows, judged_but_votes, judged_days};
+ghost use Rattle.sql_load.specs.Judging.{judged_in, judged_keys, judged_lists, judged_meetings, judged_office};
 ghost use Rattle.sql_load.specs.Judging.{rows_judged, same_meeting_row};
-ghost use Rattle.sql_load.specs.StoredRows.{rows_of, stored_rows};
+ghost use Rattle.sql_load.specs.StoredRows.{rows_but_votes, stored_rows};
 ghost use Rattle.sql_load.specs.WholeReading.{IsReading};
 ghost use Rattle.sql_rows.specs.declared.stored_records.MeetingRow.{MeetingRow};
 
 use crate::emptied::read_left;
-use crate::meeting_lists::read_lists;
+use crate::meeting_lists::read_but_votes;
 use crate::office::{days_of, keys_of};
 use crate::stored_rows::{added, stored_rows};
 use crate::table::listing;
+use crate::votes::judge_votes;
 use desk_words::limits::MOST_MEETINGS;
-use desk_words::{Listing, MeetingLists};
+use desk_words::{Listing, MeetingLists, Poll};
 use office_validation::meeting_checked;
 use sql_assemble::LoadError;
 use sql_desk_tables::meetings::Meetings;
@@ -94,9 +96,10 @@ fn read_rows<S: Alter>(
     Ok(rows)
 }
 
-/// How many rows of the tables a meeting's lists are. The fault is `Memory`.
-fn rows_of(m: &MeetingLists) -> Result<usize, LoadError>
-    ensures { MatchResult result (λ count. count ≡ rows_of m.now) (λ fault. fault ≡ Memory) }
+/// How many rows of the tables a meeting's lists are, but its votes. The fault is `Memory`.
+fn rows_but_votes(m: &MeetingLists) -> Result<usize, LoadError>
+    ensures { MatchResult result (λ count. count ≡ rows_but_votes m.now)
+        (λ fault. fault ≡ Memory) }
 {
     let count = added(
         m.meeting.later.len(),
@@ -108,12 +111,40 @@ fn rows_of(m: &MeetingLists) -> Result<usize, LoadError>
     let count = added(count, m.authorities.as_slice().len())?;
     let count = added(count, m.presences.as_slice().len())?;
     let count = added(count, m.demands.as_slice().len())?;
-    let count = added(count, m.polls.len())?;
-    added(count, m.casts.as_slice().len())
+    added(count, m.polls.len())
 }
 
-/// Judges the lists of a meeting, and gives how many rows they are. The fault is `NoOffice` only where
-/// they are none.
+/// What is judged of a meeting before its votes: how many rows its lists are, and its polls.
+#[derive(Drop)]
+struct Judged {
+    rows: usize,
+    polls: Listing<Poll>,
+}
+
+/// Judges the lists of a meeting but its votes, and gives how many rows they are, and the polls. The
+/// fault is `NoOffice` only where they are none.
+fn judge_but_votes<S: Alter>(
+    tx: &mut Transaction<'_, S>,
+    alloc: Global,
+    row: MeetingRow,
+) -> Result<Judged, LoadError>
+    ensures same_reference { tx.new.conn.ghost_name ≡ tx.old.conn.ghost_name }
+    ensures read { IsReading S.Store tx.old.conn.now tx.new.conn.now any_at_all result
+        (judged_but_votes row) }
+{
+    let lists = read_but_votes(tx, alloc, row)?;
+    let Some(checked) = meeting_checked(alloc, lists) else {
+        return Err(LoadError::NoOffice);
+    };
+    let rows = rows_but_votes(&checked)?;
+    Ok(Judged {
+        rows,
+        polls: checked.polls,
+    })
+}
+
+/// Judges a meeting, the votes on one of its polls after those on another, and gives how many rows it
+/// has. The fault is `NoOffice` only where they are no meeting's.
 fn judge_meeting<S: Alter>(
     tx: &mut Transaction<'_, S>,
     alloc: Global,
@@ -123,11 +154,15 @@ fn judge_meeting<S: Alter>(
     ensures read { IsReading S.Store tx.old.conn.now tx.new.conn.now any_at_all result
         (judged_in row) }
 {
-    let lists = read_lists(tx, alloc, row)?;
-    let Some(checked) = meeting_checked(alloc, lists) else {
-        return Err(LoadError::NoOffice);
-    };
-    rows_of(&checked)
+    let meeting = row.id;
+    let judged = judge_but_votes(tx, alloc, row)?;
+    let mut count = judged.rows;
+    let polls = judged.polls.as_slice();
+    for poll in polls {
+        let votes = judge_votes(tx, alloc, meeting, *poll)?;
+        count = added(count, votes)?;
+    }
+    Ok(count)
 }
 
 /// Judges the meetings, one after the other, and gives how many rows their lists are. The fault is

@@ -13,6 +13,7 @@ pub mod query_records;
 mod stand_ins;
 mod stored_rows;
 mod table;
+mod votes;
 
 pub use judging::judge_office;
 pub use office::read_office;

@@ -3,7 +3,7 @@ ghost use Rattle.std.specs.Prelude.{◌≡◌};
 ghost use Rattle.std.specs.List.{list_all};
 ghost use Rattle.desk_words.specs.Office.{is_meeting};
 ghost use Rattle.sql_assemble.specs.LoadResults.{any_at_all};
-ghost use Rattle.sql_load.specs.MeetingReading.{called_in, given_in, lists_in, meetings_in};
+ghost use Rattle.sql_load.specs.MeetingReading.{but_votes, called_in, given_in, lists_in, meetings_in};
 ghost use Rattle.sql_load.specs.MeetingReading.{own_of, polled_in};
 ghost use Rattle.sql_load.specs.WholeReading.{IsReading};
 
@@ -42,13 +42,12 @@ struct Given {
     authorities: Filed<Authority>,
 }
 
-/// Who is present, what is demanded, and the polls with their votes.
+/// Who is present, what is demanded, and the polls.
 #[derive(Drop)]
 struct Polled {
     presences: Filed<PresenceMark>,
     demands: Filed<DemandMark>,
     polls: Listing<Poll>,
-    casts: Filed<CastMark>,
 }
 
 fn read_called<S: Alter>(
@@ -101,17 +100,21 @@ fn read_polled<S: Alter>(
     let presences = own_filed::<presences::OfMeeting, PresenceMark, S>(tx, alloc, meeting)?;
     let demands = own_filed::<demands::OfMeeting, DemandMark, S>(tx, alloc, meeting)?;
     let polls = own::<polls::OfMeeting, Poll, S>(tx, alloc, meeting)?;
-    let casts = own_filed::<casts::OfMeeting, CastMark, S>(tx, alloc, meeting)?;
     Ok(Polled {
         presences,
         demands,
         polls,
-        casts,
     })
 }
 
-/// A meeting with the records of the three parts.
-fn own_of(meeting: MeetingRow, called: Called, given: Given, polled: Polled) -> OwnRecords
+/// A meeting with the records of the three parts, and no votes.
+fn own_of(
+    alloc: Global,
+    meeting: MeetingRow,
+    called: Called,
+    given: Given,
+    polled: Polled,
+) -> OwnRecords
     ensures { result ≡ own_of meeting called given polled }
 {
     OwnRecords {
@@ -125,13 +128,40 @@ fn own_of(meeting: MeetingRow, called: Called, given: Given, polled: Polled) -> 
         presences: polled.presences,
         demands: polled.demands,
         polls: polled.polls,
-        casts: polled.casts,
+        casts: Filed::new(alloc),
+    }
+}
+
+/// The lists of a meeting but its votes. The fault is `NoOffice` only where a row that names it is no
+/// such record, or they are no meeting's lists.
+pub(crate) fn read_but_votes<S: Alter>(
+    tx: &mut Transaction<'_, S>,
+    alloc: Global,
+    row: MeetingRow,
+) -> Result<MeetingLists, LoadError>
+    ensures same_reference { tx.new.conn.ghost_name ≡ tx.old.conn.ghost_name }
+    ensures read { IsReading S.Store tx.old.conn.now tx.new.conn.now is_meeting result
+        (but_votes row) }
+{
+    let called = read_called(tx, alloc, row.id)?;
+    let given = read_given(tx, alloc, row.id)?;
+    let polled = read_polled(tx, alloc, row.id)?;
+    own_of(alloc, row, called, given, polled).into_lists(alloc)
+}
+
+/// The lists of a meeting with these votes.
+fn with_votes(lists: MeetingLists, votes: Filed<CastMark>) -> MeetingLists
+    ensures { result ≡ record lists { casts = votes } }
+{
+    MeetingLists {
+        casts: votes,
+        ..lists
     }
 }
 
 /// The lists of a meeting. The fault is `NoOffice` only where a row that names it is no such record,
 /// or they are no meeting's lists.
-pub(crate) fn read_lists<S: Alter>(
+fn read_lists<S: Alter>(
     tx: &mut Transaction<'_, S>,
     alloc: Global,
     row: MeetingRow,
@@ -140,10 +170,10 @@ pub(crate) fn read_lists<S: Alter>(
     ensures read { IsReading S.Store tx.old.conn.now tx.new.conn.now is_meeting result
         (lists_in row) }
 {
-    let called = read_called(tx, alloc, row.id)?;
-    let given = read_given(tx, alloc, row.id)?;
-    let polled = read_polled(tx, alloc, row.id)?;
-    own_of(row, called, given, polled).into_lists(alloc)
+    let meeting = row.id;
+    let lists = read_but_votes(tx, alloc, row)?;
+    let votes = own_filed::<casts::OfMeeting, CastMark, S>(tx, alloc, meeting)?;
+    Ok(with_votes(lists, votes))
 }
 
 /// All meetings, with their lists. The fault is `NoOffice` only where they are none.

@@ -53,7 +53,10 @@ where
 }
 
 /// The items, filed by their keys. The error is want of memory.
-fn filed<T: FiledBy + Drop>(alloc: Global, items: Listing<T>) -> Result<Filed<T>, AllocError>
+pub(crate) fn filed<T: FiledBy + Drop>(
+    alloc: Global,
+    items: Listing<T>,
+) -> Result<Filed<T>, AllocError>
     ensures { IfOk result (λ filed. filed ≡ items) }
 {
     let mut filed = Filed::new(alloc);

@@ -17,11 +17,6 @@ returns-in_err-polls-clause-read g c =
     let is : c.from_residual-in_err-polls.result ≡ Err c.in_err-polls.field-0.0 = search rules in
     then g.S.Store _ _ _ _ _ _ _ _ c.in_ok-presences.ensures.read (then g.S.Store _ _ _ _ _ _ _ _ c.in_ok-demands.ensures.read (stop g.S.Store _ _ _ _ _ _ c.from_residual-in_err-polls.result is c.in_err-polls.ensures.read))
 
-pub returns-in_err-casts-clause-read : goal.returns-in_err-casts-clause-read
-returns-in_err-casts-clause-read g c =
-    let is : c.from_residual-in_err-casts.result ≡ Err c.in_err-casts.field-0.0 = search rules in
-    then g.S.Store _ _ _ _ _ _ _ _ c.in_ok-presences.ensures.read (then g.S.Store _ _ _ _ _ _ _ _ c.in_ok-demands.ensures.read (then g.S.Store _ _ _ _ _ _ _ _ c.in_ok-polls.ensures.read (stop g.S.Store _ _ _ _ _ _ c.from_residual-in_err-casts.result is c.in_err-casts.ensures.read)))
-
 pub returns-clause-read : goal.returns-clause-read
 returns-clause-read g c =
-    then g.S.Store _ _ _ _ _ _ _ _ c.in_ok-presences.ensures.read (then g.S.Store _ _ _ _ _ _ _ _ c.in_ok-demands.ensures.read (then g.S.Store _ _ _ _ _ _ _ _ c.in_ok-polls.ensures.read (last g.S.Store _ _ _ _ _ _ _ c.in_ok-casts.ensures.read refl)))
+    then g.S.Store _ _ _ _ _ _ _ _ c.in_ok-presences.ensures.read (then g.S.Store _ _ _ _ _ _ _ _ c.in_ok-demands.ensures.read (last g.S.Store _ _ _ _ _ _ _ c.in_ok-polls.ensures.read refl))
