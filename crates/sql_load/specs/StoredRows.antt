@@ -1,4 +1,5 @@
--- How many rows the tables have whose rows name a meeting, and how many of them a meeting's lists are.
+-- How many rows the tables have whose rows name a meeting, and how many of them are a meeting's
+-- lists.
 use Rattle.std.specs.Prelude.{ℕ, ◌+◌, List, [], ◌∷◌, length, Option, Some}
 use Rattle.sqlite.specs.Tree.{Trees}
 use Rattle.desk_words.specs.declared.office.MeetingLists.{MeetingLists}
@@ -38,8 +39,8 @@ rows_but_votes m =
     + length m.appointments + length m.endings + length m.authorities
     + length m.presences + length m.demands + length m.polls
 
--- so many, and those of each of these things, one after the other, or nothing where there is nothing
--- of one
+-- so many, and those of each of these things, one after the other, or nothing where there is
+-- nothing of one
 abbrev pub counted_on : {X : Type 0} → (X → Trees → Option ℕ) → List X → ℕ → Trees → Option ℕ
 counted_on its [] count trees = Some count
 counted_on its (x ∷ rest) count trees = do
