@@ -21,7 +21,7 @@ use Rattle.desk_words.specs.declared.request.OfficeRequest.{OfficeRequest}
 use Rattle.office_decisions.specs.ListsRead.{first_read}
 use Rattle.meeting_core.specs.Step.{decided}
 use Rattle.sql_model.specs.Standing.{Stands}
-use Rattle.sql_assemble.specs.declared.fault.LoadError.{LoadError}
+use Rattle.sql_load.specs.declared.fault.LoadError.{LoadError}
 use Rattle.sql_load.specs.TableLookUps.{HoldsOfStoredOffice}
 use Rattle.desk_store.specs.TableReads.{IsDecided, HoldsOfTables}
 use Rattle.std.proofs.lemmas.Result.{on_ok_weaker}

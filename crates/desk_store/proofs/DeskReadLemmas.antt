@@ -1,10 +1,13 @@
 -- What is told of the office for which the tables stand.
-use Rattle.std.proofs.Common.{◌≡◌, Ok, Err, Result, IfErr, IfOk, OnOk, IsErr, IsErrAnd, refl, sym, ap, subst, ◌∙◌}
+use Rattle.std.proofs.Common.{◌≡◌, Option, Some, Ok, Err, Result, IfErr, IfOk, OnOk, IsErr, IsErrAnd, refl, sym, ap, subst, ◌∙◌}
 use Rattle.std.specs.Prelude.{MatchResult}
 use Rattle.sqlite.specs.Held.{Held}
 use Rattle.sqlite_trees.specs.declared.store.Store as store
+use Rattle.desk_words.specs.Office.{is_office}
 use Rattle.desk_words.specs.declared.office.OfficeLists.{OfficeLists}
-use Rattle.sql_assemble.specs.declared.fault.LoadError.{LoadError}
+use Rattle.sql_model.specs.OfficeRecords.{office_in}
+use Rattle.sql_load.specs.declared.fault.LoadError.{LoadError}
+use Rattle.sql_load.specs.WholeReading.{IsReading}
 use Rattle.office_validation.specs.Validation.{office_in_order}
 use Rattle.sql_load.specs.TableLookUps.{HoldsOfStoredOffice, HoldsOrFails}
 use Rattle.desk_store.specs.TableReads.{HoldsOfTables, IsBookOf}
@@ -25,11 +28,12 @@ ok_weaker P Q (Err e) next h = tt
 
 module _ {S : Type 0} (g : store.Ghosts S) (a b : Held S) where
   -- the lists that are read are the office, and so is the book of them
-  pub book_returned : {E : Type 0} (Q : E → LoadError → Type 0) (lists : OfficeLists) (made : Result OfficeLists E) (r : Result OfficeLists LoadError) → HoldsOfStoredOffice g a b (Ok lists) (λ office read. read ≡ office)
+  pub book_returned : {E : Type 0} (Q : E → LoadError → Type 0) (lists : OfficeLists) (made : Result OfficeLists E) (r : Result OfficeLists LoadError) → IsReading g a b is_office (Ok lists) office_in
       → IfOk made (λ book. book ≡ office_in_order lists) → MatchResult made (λ x. r ≡ Ok x) (λ e. IsErrAnd r (Q e)) → HoldsOfTables g a b r IsBookOf
   book_returned Q lists made r reading is mapped = record {
     holds = λ clean office stands.
-        let same : lists ≡ office = reading.holds (clean, stands.desk) office stands.holds stands.preserved in
+        let found : ◌≡◌ {A = Option OfficeLists} (Some lists) (Some office) = sym (reading.holds (clean, stands.desk)) ∙ stands.holds in
+        let same : lists ≡ office = cc in
         mapped_ok Q (IsBookOf office) made r mapped (ok_weaker (λ book. book ≡ office_in_order lists) (IsBookOf office) made (λ book ordered. ordered ∙ ap office_in_order same ∙ office_ordered office stands.preserved) is);
     same = λ read. always r (reading.same read);
     changes = reading.changes;

@@ -19,7 +19,7 @@ use Rattle.sql_open.proofs.CrashLemmas.{leaves_itself}
 use Rattle.sql_open.proofs.WholeLemmas.{leaves_whole, whole_of}
 use Rattle.sql_open.proofs.OpeningLemmas.{desk_same}
 use Rattle.meeting_core.specs.Step.{stepped}
-use Rattle.sql_assemble.specs.declared.fault.LoadError.{LoadError}
+use Rattle.sql_load.specs.declared.fault.LoadError.{LoadError}
 use Rattle.any_office.specs.StoredOffice.{office_after, made_by}
 use Rattle.desk_store.specs.Joins.{AreAfter, IsAsItWas, IsDeskIfOpen, LeavesDesk}
 use Rattle.desk_store.specs.Cache.{AreRecordsOf}

@@ -8,7 +8,7 @@ use Rattle.desk_words.specs.Office.{is_office}
 use Rattle.desk_words.specs.declared.answer.Answer.{Answer}
 use Rattle.desk_words.specs.declared.change.Change.{Change}
 use Rattle.desk_words.specs.declared.office.OfficeLists.{OfficeLists}
-use Rattle.sql_assemble.specs.declared.fault.LoadError.{LoadError}
+use Rattle.sql_load.specs.declared.fault.LoadError.{LoadError}
 use Rattle.desk_words.specs.declared.request.Call.{Call}
 use Rattle.sql_load.proofs.ReadingLemmas.{keeps_then}
 use Rattle.desk_words.specs.Changes.{applied_if_any}

@@ -1,8 +1,8 @@
 -- The failure that a fault is answered as.
 use Rattle.meeting_core.specs.declared.book.of_lists.BookFault.{BookFault}
 use Rattle.meeting_core.specs.declared.book.of_lists.BookFault.TheVariants as book
-use Rattle.sql_assemble.specs.declared.fault.LoadError.{LoadError}
-use Rattle.sql_assemble.specs.declared.fault.LoadError.TheVariants as reading
+use Rattle.sql_load.specs.declared.fault.LoadError.{LoadError}
+use Rattle.sql_load.specs.declared.fault.LoadError.TheVariants as reading
 use Rattle.desk_words.specs.declared.reply.Failure.{Failure}
 use Rattle.desk_words.specs.declared.reply.Failure.TheVariants.{Store, Memory}
 

@@ -16,7 +16,7 @@ use Rattle.party_views.specs.Public.{PublicRecord}
 use Rattle.party_views.specs.Views.{own_of, public_of}
 use Rattle.party_views.specs.declared.views.OwnView.{OwnView}
 use Rattle.sql_schema.specs.Statements.{ChangesNothing, DeclaresNothing, IsRead}
-use Rattle.sql_assemble.specs.declared.fault.LoadError.{LoadError}
+use Rattle.sql_load.specs.declared.fault.LoadError.{LoadError}
 use Rattle.desk_words.specs.Changes.{applied_if_any, can_make}
 use Rattle.meeting_core.specs.KeyHolders.{caller_with}
 use Rattle.meeting_core.specs.Decisions.{desk_call}

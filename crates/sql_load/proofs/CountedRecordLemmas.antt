@@ -42,8 +42,8 @@ use Rattle.sql_rows.specs.Meanings.{all_meanings}
 use Rattle.sql_queries.specs.LastRecords.{FindsLast, IsLastOf}
 use Rattle.sql_model.specs.OfficeRecords.{FlatLists, flat_in, number_before, numbered_from, office_of_records, whole_meeting}
 use Rattle.sql_model.proofs.ModelOfficeLemmas.{AreOf, are_of}
-use Rattle.sql_assemble.specs.declared.fault.LoadError.{LoadError}
-use Rattle.sql_assemble.specs.LoadResults.{ReadAgrees, any_at_all, fault_of_error}
+use Rattle.sql_load.specs.declared.fault.LoadError.{LoadError}
+use Rattle.sql_load.specs.LoadResults.{ReadAgrees, any_at_all, fault_of_error}
 use Rattle.party_views.specs.PublicRead.{stand_ins, unread, up_to, with_unread}
 use Rattle.party_views.specs.RowsRead.{polls_on}
 use Rattle.party_views.specs.Views.{polls_in}

@@ -24,9 +24,9 @@ use Rattle.sql_queries.specs.CountedRecords.{CountsRecords}
 use Rattle.sql_model.specs.OfficeRecords.{FlatLists, flat_in, of_meeting, office_of_records}
 use Rattle.sql_model.proofs.ListChanges.{ListOf}
 use Rattle.sql_model.proofs.ModelOfficeLemmas.{AreOf, are_of}
-use Rattle.sql_assemble.specs.declared.fault.LoadError.{LoadError}
-use Rattle.sql_assemble.specs.declared.fault.LoadError.TheVariants as fault
-use Rattle.sql_assemble.specs.LoadResults.{ReadErrAgrees, ReadAgrees, any_at_all, fault_of_error}
+use Rattle.sql_load.specs.declared.fault.LoadError.{LoadError}
+use Rattle.sql_load.specs.declared.fault.LoadError.TheVariants as fault
+use Rattle.sql_load.specs.LoadResults.{ReadErrAgrees, ReadAgrees, any_at_all, fault_of_error}
 use Rattle.sql_load.specs.MeetingRecords.{without_meeting}
 use Rattle.sql_load.specs.TableLookUps.{HoldsOfStoredOffice, HoldsOrFails}
 use Rattle.sql_load.proofs.NamedMeetingLemmas.{HoldAll, all_held, list_is, passing, the_same}

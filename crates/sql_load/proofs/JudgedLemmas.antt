@@ -39,19 +39,17 @@ use Rattle.sql_model.proofs.FlatChanges.{HoldAll, all_held, flat_held, only_is, 
 use Rattle.sql_model.proofs.ModelOfficeLemmas.{AllStand, are_of, have_all, named_so, office_is}
 use Rattle.sql_model.proofs.ModelRecordLemmas.{name_turned}
 use Rattle.sql_model.proofs.Names.ListName.{Register, Appointments, Endings, Authorities, Presences, Demands, Polls, Casts}
-use Rattle.sql_assemble.specs.declared.fault.LoadError.{LoadError}
-use Rattle.sql_assemble.specs.declared.fault.LoadError.TheVariants.{NoOffice}
-use Rattle.sql_assemble.specs.LoadResults.{ReadAgrees, any_at_all}
-use Rattle.sql_assemble.specs.OwnLists.{lists_own, lists_own_with, resolutions_own, sessions_own}
-use Rattle.sql_assemble.specs.declared.own_records.OwnRecords.{OwnRecords}
+use Rattle.sql_load.specs.declared.fault.LoadError.{LoadError}
+use Rattle.sql_load.specs.declared.fault.LoadError.TheVariants.{NoOffice, Store, Memory}
+use Rattle.sql_load.specs.LoadResults.{ReadAgrees, ReadErrAgrees, any_at_all}
+use Rattle.sql_load.specs.OwnLists.{lists_own, lists_own_with, resolutions_own, sessions_own}
+use Rattle.sql_load.specs.declared.own_records.OwnRecords.{OwnRecords}
 use Rattle.sql_load.specs.Judging.{HasOffice, IsJudged, are_meeting_rows, judged_but_votes, judged_days, judged_in, judged_keys, judged_lists, judged_office, rows_judged, same_meeting_row}
 use Rattle.sql_load.specs.MeetingReading.{but_votes, called_in, days_in, given_in, keys_in, lists_in, lists_of_each, meetings_in, office_by_meetings, own_in, polled_in}
 use Rattle.sql_load.specs.MeetingRecords.{without_meeting}
 use Rattle.sql_load.specs.StoredRows.{counted_on, rows_but_votes, stored_rows}
-use Rattle.sql_load.specs.TableLookUps.{HoldsOfStoredOffice}
 use Rattle.sql_load.specs.Votes.{judged_votes, votes_on}
 use Rattle.sql_load.specs.WholeReading.{IsReading}
-use Rattle.sql_load.proofs.FoundRecordLemmas.{yields_return}
 use Rattle.sql_load.proofs.MeetingReadLemmas.{guarded}
 use Rattle.sql_load.proofs.CastPartLemmas.{casts_from, on_any, on_poll, parts_from}
 use Rattle.sql_load.proofs.MeetingRowLemmas.{own_is, says_so}
@@ -621,6 +619,22 @@ judged_complete trees office h good =
     let counted : (listed.0 == stored_rows trees) ≡ true = eq-eqb listed.0 (stored_rows trees) all in
     rw (held.left, held.keys, keys, held.closed, days, held.meetings, both_true few apart, listed.1, counted) refl
 
+-- where they are judged, and read meeting by meeting, what is read is the office that they hold
+read_as_stored : (r : Result OfficeLists LoadError) (trees : Trees) → ReadAgrees is_office r (judged_office trees >>= λ _. office_by_meetings trees) → ReadAgrees is_office r (office_in trees)
+read_as_stored (Ok office) trees h =
+    let judged = bound (judged_office trees) (λ _. office_by_meetings trees) office h in
+    let held = judged_sound trees judged.1 in
+    held.1 ∙ sym (office_read trees held.0 held.1) ∙ judged.2
+read_as_stored (Err e) trees h = go e h
+  where
+    go : (e : LoadError) → ReadErrAgrees is_office e (judged_office trees >>= λ _. office_by_meetings trees) → ReadErrAgrees is_office e (office_in trees)
+    go NoOffice none = λ office h. elim (cases_Bool (is_office office)) [
+      | inl good ↦ none office (ap (λ (o : Option (Unit {0})). o >>= λ _. office_by_meetings trees) (judged_complete trees office h good) ∙ office_read trees office h)
+      | inr wrong ↦ wrong
+    ]
+    go Store none = tt
+    go Memory none = tt
+
 module _ {S : Type 0} (g : store.Ghosts S) (a b : Held S) where
   -- what is judged of each part is judged of the office
   pub office_judged : (r : Result (Unit {0}) LoadError) → IsReading g a b any_at_all r judged_office → IsJudged g a b r
@@ -641,10 +655,10 @@ module _ {S : Type 0} (g : store.Ghosts S) (a b : Held S) where
         | inr wrong ↦ wrong
       ]
 
-  -- what is read meeting by meeting is the office that is stored
-  pub office_holds : (r : Result OfficeLists LoadError) → IsReading g a b is_office r office_by_meetings → HoldsOfStoredOffice g a b r (λ office read. read ≡ office)
-  office_holds r one = record {
-    holds = λ read office h preserved. yields_return is_office r office (office_by_meetings (state g a).now.trees) (one.holds read) (office_read (state g a).now.trees office h) preserved;
+  -- what is read meeting by meeting, where each part is judged to be right, is the office that the tables hold
+  pub office_whole : (r : Result OfficeLists LoadError) → IsReading g a b is_office r (λ trees. judged_office trees >>= λ _. office_by_meetings trees) → IsReading g a b is_office r office_in
+  office_whole r one = record {
+    holds = λ read. read_as_stored r (state g a).now.trees (one.holds read);
     same = one.same;
     changes = one.changes;
   }

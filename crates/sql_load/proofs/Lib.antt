@@ -1,3 +1,5 @@
+pub mod AssembledListLemmas
+pub mod AssembledOrderLemmas
 pub mod CastPartLemmas
 pub mod CountedRecordLemmas
 pub mod FoundRecordLemmas

@@ -19,10 +19,10 @@ use Rattle.sql_rows.specs.declared.stored_records.InMeeting.{InMeeting}
 use Rattle.sql_rows.specs.declared.stored_records.MeetingRow.{MeetingRow}
 use Rattle.sql_rows.proofs.RowMeaningLemmas.{bound}
 use Rattle.sql_schema.specs.Statements.{ChangesNothing, IsRead, TableOf, records_in}
-use Rattle.sql_assemble.specs.declared.fault.LoadError.{LoadError}
-use Rattle.sql_assemble.specs.declared.fault.LoadError.TheVariants.{NoOffice, Store, Memory}
-use Rattle.sql_assemble.specs.LoadResults.{ReadAgrees, ReadErrAgrees, any_at_all, fault_of_error}
-use Rattle.sql_assemble.proofs.AssembledListLemmas.{second_false}
+use Rattle.sql_load.specs.declared.fault.LoadError.{LoadError}
+use Rattle.sql_load.specs.declared.fault.LoadError.TheVariants.{NoOffice, Store, Memory}
+use Rattle.sql_load.specs.LoadResults.{ReadAgrees, ReadErrAgrees, any_at_all, fault_of_error}
+use Rattle.sql_load.proofs.AssembledListLemmas.{second_false}
 use Rattle.sql_schema.specs.Contents as table
 use Rattle.sql_load.specs.StoredRows.{counted_on}
 use Rattle.sql_load.specs.MeetingReading.{lists_in, lists_of_each, meetings_in}

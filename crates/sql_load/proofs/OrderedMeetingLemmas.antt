@@ -22,7 +22,7 @@ use Rattle.sql_rows.proofs.RowMeaningLemmas.{bound}
 use Rattle.sql_schema.specs.Contents.{casts}
 use Rattle.sql_model.proofs.FlatChanges.{some_is}
 use Rattle.sql_model.proofs.ModelListLemmas.{sort_by-sorted}
-use Rattle.sql_assemble.specs.OwnLists.{resolutions_own, sessions_own}
+use Rattle.sql_load.specs.OwnLists.{resolutions_own, sessions_own}
 use Rattle.office_validation.specs.Validation.{in_order, meeting_checked, office_in_order}
 use Rattle.sql_load.specs.MeetingReading.{but_votes, called_in, given_in, own_in, polled_in}
 use Rattle.sql_load.specs.StoredRows.{rows_but_votes}

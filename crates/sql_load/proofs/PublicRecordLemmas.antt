@@ -34,9 +34,9 @@ use Rattle.sql_model.proofs.Names.ListName.{Polls}
 use Rattle.sql_model.proofs.ModelOfficeLemmas.{AreOf, are_of}
 use Rattle.sql_model.proofs.PollChanges.{polls_ascend}
 use Rattle.sql_load.specs.WholeReading.{IsReading}
-use Rattle.sql_assemble.specs.OwnLists.{are_few, resolutions_own}
-use Rattle.sql_assemble.specs.LoadResults.{ReadErrAgrees, any_at_all}
-use Rattle.sql_assemble.specs.declared.fault.LoadError.{LoadError}
+use Rattle.sql_load.specs.OwnLists.{are_few, resolutions_own}
+use Rattle.sql_load.specs.LoadResults.{ReadErrAgrees, any_at_all}
+use Rattle.sql_load.specs.declared.fault.LoadError.{LoadError}
 use Rattle.party_views.specs.RowsRead.{polls_on}
 use Rattle.party_views.specs.Views.{polls_in}
 use Rattle.sql_load.specs.MeetingRecords.{later_in, without_meeting}

@@ -12,10 +12,10 @@ use Rattle.sql_model.specs.OfficeRecords.{are_left_empty, has_no_row}
 use Rattle.sql_schema.specs.Contents.{demands_before_sessions, polls_before_sessions, presences_before_sessions}
 use Rattle.sql_schema.specs.Statements.{ChangesNothing, HasTables, IsDesk, IsRead, IsRising, layout_two}
 use Rattle.sql_rows.proofs.RowMeaningLemmas.{bound}
-use Rattle.sql_assemble.specs.declared.fault.LoadError.{LoadError}
-use Rattle.sql_assemble.specs.declared.fault.LoadError.TheVariants.{NoOffice, Store, Memory}
+use Rattle.sql_load.specs.declared.fault.LoadError.{LoadError}
+use Rattle.sql_load.specs.declared.fault.LoadError.TheVariants.{NoOffice, Store, Memory}
 use Rattle.sql_load.specs.WholeReading.{IsReading}
-use Rattle.sql_assemble.specs.LoadResults.{ReadErrAgrees, ReadAgrees, any_at_all}
+use Rattle.sql_load.specs.LoadResults.{ReadErrAgrees, ReadAgrees, any_at_all}
 
 pub desk_same : (old new : State) → IsUnchanged old new → IsDesk old → IsDesk new
 desk_same old new h desk =

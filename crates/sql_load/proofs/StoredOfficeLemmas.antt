@@ -9,8 +9,8 @@ use Rattle.desk_words.specs.Office.{is_office}
 use Rattle.desk_words.specs.declared.office.OfficeLists.{OfficeLists}
 use Rattle.sql_model.specs.OfficeRecords.{office_in}
 use Rattle.sql_load.proofs.ReadingLemmas.{changes_then, read_first, read_second, unchanged_then}
-use Rattle.sql_assemble.specs.declared.fault.LoadError.{LoadError}
-use Rattle.sql_assemble.specs.declared.fault.LoadError.TheVariants.{NoOffice, Store, Memory}
+use Rattle.sql_load.specs.declared.fault.LoadError.{LoadError}
+use Rattle.sql_load.specs.declared.fault.LoadError.TheVariants.{NoOffice, Store, Memory}
 use Rattle.sql_load.specs.TableLookUps.{HoldsOfStoredOffice, HoldsOrFails}
 
 -- what is told is so in another way too

@@ -26,7 +26,7 @@ use Rattle.sql_schema.specs.Statements.{TableOf, columns_of}
 use Rattle.sql_queries.proofs.CountQueries.{as_many}
 use Rattle.sql_model.specs.OfficeRecords.{number_before, numbered_from}
 use Rattle.sql_model.proofs.FlatChanges.{some_is}
-use Rattle.sql_assemble.specs.OwnLists.{resolutions_own, sessions_own}
+use Rattle.sql_load.specs.OwnLists.{resolutions_own, sessions_own}
 use Rattle.sql_load.specs.Judging.{same_meeting_row}
 use Rattle.sql_load.specs.MeetingReading.{but_votes, called_in, given_in, is_of, meeting_in_row, own_in, polled_in}
 use Rattle.sql_load.specs.MeetingRecords.{without_meeting}

@@ -15,8 +15,8 @@ use Rattle.sql_rows.specs.declared.stored_records.MeetingRow.{MeetingRow}
 use Rattle.sql_schema.specs.Contents as table
 use Rattle.sql_schema.specs.Statements.{ChangesNothing, IsRead, records_in}
 use Rattle.sql_model.specs.OfficeRecords.{are_left_empty, office_in}
-use Rattle.sql_assemble.specs.declared.fault.LoadError.{LoadError}
-use Rattle.sql_assemble.specs.declared.fault.LoadError.TheVariants.{NoOffice}
+use Rattle.sql_load.specs.declared.fault.LoadError.{LoadError}
+use Rattle.sql_load.specs.declared.fault.LoadError.TheVariants.{NoOffice}
 use Rattle.sql_load.specs.MeetingReading.{but_votes, days_in, keys_in}
 use Rattle.sql_load.specs.StoredRows.{counted_on, rows_but_votes, stored_rows}
 use Rattle.sql_load.specs.Votes.{judged_votes}

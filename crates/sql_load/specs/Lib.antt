@@ -1,6 +1,8 @@
 pub mod Judging
+pub mod LoadResults
 pub mod MeetingReading
 pub mod MeetingRecords
+pub mod OwnLists
 pub mod StoredRows
 pub mod TableLookUps
 pub mod Votes

@@ -17,8 +17,8 @@ use Rattle.sql_rows.specs.declared.stored_records.MeetingRow.{MeetingRow}
 use Rattle.sql_schema.specs.Contents as table
 use Rattle.sql_schema.specs.Statements.{TableOf, columns_of, records_in}
 use Rattle.sql_model.specs.OfficeRecords.{are_left_empty}
-use Rattle.sql_assemble.specs.OwnLists.{lists_own}
-use Rattle.sql_assemble.specs.declared.own_records.OwnRecords.{OwnRecords}
+use Rattle.sql_load.specs.OwnLists.{lists_own}
+use Rattle.sql_load.specs.declared.own_records.OwnRecords.{OwnRecords}
 use Rattle.sql_load.specs.MeetingRecords.{without_meeting}
 use Rattle.sql_load.specs.declared.meeting_lists.Called.{Called}
 use Rattle.sql_load.specs.declared.meeting_lists.Given.{Given}

@@ -7,8 +7,8 @@ use Rattle.desk_words.specs.Office.{is_office}
 use Rattle.desk_words.specs.declared.office.OfficeLists.{OfficeLists}
 use Rattle.sql_schema.specs.Statements.{ChangesNothing, IsRead}
 use Rattle.sql_model.specs.OfficeRecords.{office_in}
-use Rattle.sql_assemble.specs.declared.fault.LoadError.{LoadError}
-use Rattle.sql_assemble.specs.declared.fault.LoadError.TheVariants.{NoOffice, Store, Memory}
+use Rattle.sql_load.specs.declared.fault.LoadError.{LoadError}
+use Rattle.sql_load.specs.declared.fault.LoadError.TheVariants.{NoOffice, Store, Memory}
 
 -- it is never said that there is no office
 abbrev pub IsLookUpFailure : LoadError → Type 0

@@ -5,8 +5,8 @@ use Rattle.sqlite.specs.State.{IsUnchanged}
 use Rattle.sqlite.specs.Tree.{Trees}
 use Rattle.sqlite_trees.specs.declared.store.Store as store
 use Rattle.sql_schema.specs.Statements.{ChangesNothing, IsRead}
-use Rattle.sql_assemble.specs.LoadResults.{ReadAgrees}
-use Rattle.sql_assemble.specs.declared.fault.LoadError.{LoadError}
+use Rattle.sql_load.specs.LoadResults.{ReadAgrees}
+use Rattle.sql_load.specs.declared.fault.LoadError.{LoadError}
 
 -- in a transaction over the tables of a desk this is what they say, and nothing is changed
 pub record IsReading {S X : Type 0} (g : store.Ghosts S) (old new : Held S) (right : X → Bool)

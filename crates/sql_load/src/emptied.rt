@@ -4,9 +4,9 @@ ghost use Rattle.sql_load.specs.WholeReading.{IsReading};
 ghost use Rattle.sql_model.specs.OfficeRecords.{are_left_empty, has_no_row};
 ghost use Rattle.sql_schema.specs.Contents as contents;
 ghost use Rattle.vocabulary.specs.OptionSteps.{guard};
-ghost use Rattle.sql_assemble.specs.LoadResults.{ReadAgrees, any_at_all};
+ghost use Rattle.sql_load.specs.LoadResults.{ReadAgrees, any_at_all};
 
-use sql_assemble::LoadError;
+use crate::fault::LoadError;
 use sql_meeting_tables::demands_before_sessions::DemandsBeforeSessions;
 use sql_meeting_tables::polls_before_sessions::PollsBeforeSessions;
 use sql_meeting_tables::presences_before_sessions::PresencesBeforeSessions;

@@ -5,8 +5,8 @@ ghost use Rattle.std.specs.Prelude.{◌≡◌, ◌==◌, MatchResult, count_by, 
 ghost use Rattle.std.specs.List.{list_all};
 ghost use Rattle.vocabulary.specs.OptionSteps.{guard};
 ghost use Rattle.seq.specs.Ordered.{differ_by};
-ghost use Rattle.sql_assemble.specs.LoadResults.{any_at_all};
-ghost use Rattle.sql_assemble.specs.declared.fault.LoadError.TheVariants.{Memory};
+ghost use Rattle.sql_load.specs.LoadResults.{any_at_all};
+ghost use Rattle.sql_load.specs.declared.fault.LoadError.TheVariants.{Memory};
 ghost use Rattle.sql_load.specs.Judging.{IsJudged, are_meeting_rows, judged_but_votes, judged_days};
 ghost use Rattle.sql_load.specs.Judging.{judged_in, judged_keys, judged_lists, judged_meetings, judged_office};
 ghost use Rattle.sql_load.specs.Judging.{rows_judged, same_meeting_row};
@@ -15,6 +15,7 @@ ghost use Rattle.sql_load.specs.WholeReading.{IsReading};
 ghost use Rattle.sql_rows.specs.declared.stored_records.MeetingRow.{MeetingRow};
 
 use crate::emptied::read_left;
+use crate::fault::LoadError;
 use crate::meeting_lists::read_but_votes;
 use crate::office::{days_of, keys_of};
 use crate::stored_rows::{added, stored_rows};
@@ -23,7 +24,6 @@ use crate::votes::judge_votes;
 use desk_words::limits::MOST_MEETINGS;
 use desk_words::{Listing, MeetingLists, Poll};
 use office_validation::meeting_checked;
-use sql_assemble::LoadError;
 use sql_desk_tables::meetings::Meetings;
 use sql_rows::MeetingRow;
 use sqlite::{Alter, Transaction};
@@ -208,7 +208,10 @@ fn judge_meetings<S: Alter>(tx: &mut Transaction<'_, S>, alloc: Global) -> Resul
 }
 
 /// Judges all that the tables hold, each part after the other.
-fn judge_parts<S: Alter>(tx: &mut Transaction<'_, S>, alloc: Global) -> Result<(), LoadError>
+pub(crate) fn judge_parts<S: Alter>(
+    tx: &mut Transaction<'_, S>,
+    alloc: Global,
+) -> Result<(), LoadError>
     ensures same_reference { tx.new.conn.ghost_name ≡ tx.old.conn.ghost_name }
     ensures read { IsReading S.Store tx.old.conn.now tx.new.conn.now any_at_all result
         judged_office }

@@ -2,18 +2,19 @@
 ghost use Rattle.std.specs.Prelude.{◌≡◌};
 ghost use Rattle.std.specs.List.{list_all};
 ghost use Rattle.desk_words.specs.Office.{is_meeting};
-ghost use Rattle.sql_assemble.specs.LoadResults.{any_at_all};
+ghost use Rattle.sql_load.specs.LoadResults.{any_at_all};
 ghost use Rattle.sql_load.specs.MeetingReading.{but_votes, called_in, given_in, lists_in, meetings_in};
 ghost use Rattle.sql_load.specs.MeetingReading.{own_of, polled_in};
 ghost use Rattle.sql_load.specs.WholeReading.{IsReading};
 
+use crate::fault::LoadError;
+use crate::own_records::OwnRecords;
 use crate::own_rows::{own, own_filed};
 use crate::table::listing;
 use desk_words::{
     Appointment, Authority, CastMark, DemandMark, Ending, Filed, Listing, MeetingId, MeetingLists,
     Poll, PresenceMark, RegisterRow, Resolution, Session,
 };
-use sql_assemble::{LoadError, OwnRecords};
 use sql_desk_tables::meetings::Meetings;
 use sql_queries::{
     appointments, authorities, casts, demands, endings, polls, presences, register, resolutions,

@@ -1,15 +1,18 @@
 //! The office that the tables hold.
 ghost use Rattle.std.specs.Prelude.{◌≡◌};
 ghost use Rattle.desk_words.specs.SortedLists.{is_day_list, is_key_list};
-ghost use Rattle.sql_load.specs.MeetingReading.{days_in, keys_in};
-ghost use Rattle.sql_load.specs.TableLookUps.{HoldsOfStoredOffice};
+ghost use Rattle.desk_words.specs.Office.{is_office};
+ghost use Rattle.sql_load.specs.MeetingReading.{days_in, keys_in, office_by_meetings};
 ghost use Rattle.sql_load.specs.WholeReading.{IsReading};
+ghost use Rattle.sql_model.specs.OfficeRecords.{office_in};
 
 use crate::emptied::read_left;
+use crate::fault::LoadError;
+use crate::judging::judge_parts;
 use crate::meeting_lists::read_meetings;
+use crate::ordered_lists::{day_list, key_rows};
 use crate::table::listing;
 use desk_words::{DayList, KeyRows, OfficeLists};
-use sql_assemble::{LoadError, day_list, key_rows};
 use sql_desk_tables::closed::ClosedDays;
 use sql_desk_tables::keys::Keys;
 use sqlite::{Alter, Transaction};
@@ -40,14 +43,14 @@ pub(crate) fn days_of<S: Alter>(
     day_list(days)
 }
 
-/// The office that the tables hold, whole. Of tables that hold none no clause says what it is.
-pub fn read_office<S: Alter>(
+/// The office that the tables hold, read meeting by meeting.
+fn office_by_meetings<S: Alter>(
     tx: &mut Transaction<'_, S>,
     alloc: Global,
 ) -> Result<OfficeLists, LoadError>
     ensures same_reference { tx.new.conn.ghost_name ≡ tx.old.conn.ghost_name }
-    ensures holds { HoldsOfStoredOffice S.Store tx.old.conn.now tx.new.conn.now result
-        (λ office read. read ≡ office) }
+    ensures read { IsReading S.Store tx.old.conn.now tx.new.conn.now is_office result
+        office_by_meetings }
 {
     read_left(tx)?;
     let keys = keys_of(tx, alloc)?;
@@ -58,4 +61,17 @@ pub fn read_office<S: Alter>(
         closed,
         meetings,
     })
+}
+
+/// The office that the tables hold. The fault is `NoOffice` only where they hold none.
+pub fn read_office<S: Alter>(
+    tx: &mut Transaction<'_, S>,
+    alloc: Global,
+) -> Result<OfficeLists, LoadError>
+    ensures same_reference { tx.new.conn.ghost_name ≡ tx.old.conn.ghost_name }
+    ensures read { IsReading S.Store tx.old.conn.now tx.new.conn.now is_office result office_in }
+{
+    // A row that names no meeting would not be read.
+    judge_parts(tx, alloc)?;
+    office_by_meetings(tx, alloc)
 }

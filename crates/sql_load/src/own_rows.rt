@@ -1,16 +1,16 @@
 //! What the rows of a table that name a meeting are.
 ghost use Rattle.std.specs.Prelude.{◌≡◌, ◌∷◌, [], IfOk};
-ghost use Rattle.sql_assemble.specs.LoadResults.{any_at_all};
+ghost use Rattle.sql_load.specs.LoadResults.{any_at_all};
 ghost use Rattle.sql_load.specs.MeetingReading.{own_in, rows_of_meeting};
 ghost use Rattle.sql_load.specs.WholeReading.{IsReading};
 ghost use Rattle.sql_schema.specs.Statements.{ChangesNothing, IsRead};
 ghost use Rattle.sqlite.specs.Held.{state};
 ghost use Rattle.sqlite.specs.State.{IsUnchanged};
 
+use crate::fault::LoadError;
 use crate::query_records::{items, records_found};
 use desk_words::{Filed, Listing, MeetingId};
 use keyed_seq::FiledBy;
-use sql_assemble::LoadError;
 use sql_rows::{FromRow, InMeeting};
 use sql_stored::{ListedTable, Query, ReadTable, RowKey};
 use sqlite::{Alter, Error, Row, Transaction};

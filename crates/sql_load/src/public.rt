@@ -8,13 +8,14 @@ ghost use Rattle.party_views.specs.Views.{meeting_at, polls_in, public_of};
 ghost use Rattle.sql_load.specs.MeetingRecords.{AreOnItsResolutions, MayHave, last_number, later_in};
 ghost use Rattle.sql_load.specs.TableLookUps.{HoldsOfStoredOffice};
 
+use crate::fault::LoadError;
+use crate::ordered_lists::{day_list, poll_list, resolution_list, session_list};
 use crate::query_records::{first, items, records_found};
 use crate::stand_ins::{stand_ins, stand_ins_by_polls, unread};
 use crate::table::listing;
 use desk_words::{Listing, Meeting, MeetingId, Poll, Resolution, Resolutions, Session};
 use office_days::Closed;
 use party_views::PublicRecord;
-use sql_assemble::{LoadError, day_list, poll_list, resolution_list, session_list};
 use sql_desk_tables::closed::ClosedDays;
 use sql_queries::{meetings, polls, resolutions, sessions};
 use sql_rows::{InMeeting, MeetingRow, Numbered};

@@ -3,12 +3,12 @@ ghost use Rattle.std.specs.Prelude.{◌≡◌, ◌∷◌, [], ℕ, pos, Err, Mat
 ghost use Rattle.sqlite.specs.declared.types.Value.TheVariants.{Int};
 ghost use Rattle.std.specs.List.{slice_get};
 ghost use Rattle.sql_rows.specs.Meanings.{all_meanings};
-ghost use Rattle.sql_assemble.specs.LoadResults.{ReadAgrees, any_at_all, fault_of_error};
-ghost use Rattle.sql_assemble.specs.declared.fault.LoadError.TheVariants.{Memory};
+ghost use Rattle.sql_load.specs.LoadResults.{ReadAgrees, any_at_all, fault_of_error};
+ghost use Rattle.sql_load.specs.declared.fault.LoadError.TheVariants.{Memory};
 ghost use Rattle.sql_load.specs.MeetingRecords.{without_meeting};
 
+use crate::fault::LoadError;
 use desk_words::Listing;
-use sql_assemble::LoadError;
 use sql_rows::{Column, FromRow, InMeeting, records};
 use sqlite::{Error, Row};
 use std::alloc::Global;

@@ -1,12 +1,12 @@
 //! What stands in place of a meeting's resolutions where none of them is read.
 ghost use Rattle.std.specs.Prelude.{◌≡◌, ℕ, IfSome, MatchResult, true};
 ghost use Rattle.party_views.specs.PublicRead.{stand_ins, unread, up_to};
-ghost use Rattle.sql_assemble.specs.declared.fault.LoadError.TheVariants.{Memory};
+ghost use Rattle.sql_load.specs.declared.fault.LoadError.TheVariants.{Memory};
 ghost use Rattle.sql_load.specs.MeetingRecords.{are_on, may_have};
 
+use crate::fault::LoadError;
 use desk_words::limits::MOST_RESOLUTIONS;
 use desk_words::{Poll, ResKind, Resolution, Resolutions, Text, find_poll};
-use sql_assemble::LoadError;
 use std::alloc::Global;
 
 /// The first of so many resolutions up to that of a number, if it is one of them, and else all.

@@ -1,12 +1,12 @@
 //! How many rows the tables have whose rows name a meeting.
 ghost use Rattle.std.specs.Prelude.{◌≡◌, ◌+◌, MatchResult, Some};
-ghost use Rattle.sql_assemble.specs.LoadResults.{any_at_all};
-ghost use Rattle.sql_assemble.specs.declared.fault.LoadError.TheVariants.{Memory};
+ghost use Rattle.sql_load.specs.LoadResults.{any_at_all};
+ghost use Rattle.sql_load.specs.declared.fault.LoadError.TheVariants.{Memory};
 ghost use Rattle.sql_load.specs.StoredRows.{called_rows, rows_in, stored_rows, with_given, with_polled};
 ghost use Rattle.sql_load.specs.WholeReading.{IsReading};
 
+use crate::fault::LoadError;
 use crate::query_records::counted;
-use sql_assemble::LoadError;
 use sql_desk_tables::register::Register;
 use sql_desk_tables::resolutions::Resolutions;
 use sql_desk_tables::sessions::Sessions;

@@ -2,10 +2,10 @@
 ghost use Rattle.std.specs.Prelude.{◌≡◌};
 ghost use Rattle.sql_load.specs.WholeReading.{IsReading};
 ghost use Rattle.sql_schema.specs.Statements.{records_in};
-ghost use Rattle.sql_assemble.specs.LoadResults.{any_at_all};
+ghost use Rattle.sql_load.specs.LoadResults.{any_at_all};
 
+use crate::fault::LoadError;
 use desk_words::Listing;
-use sql_assemble::LoadError;
 use sql_rows::{FromRow, records};
 use sql_stored::{ReadTable, all};
 use sqlite::{Alter, Transaction};

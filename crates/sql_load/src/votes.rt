@@ -1,17 +1,17 @@
 //! The votes on one poll, read and judged.
 ghost use Rattle.std.specs.Prelude.{◌≡◌, IfOk};
-ghost use Rattle.sql_assemble.specs.LoadResults.{any_at_all};
+ghost use Rattle.sql_load.specs.LoadResults.{any_at_all};
 ghost use Rattle.sql_load.specs.Votes.{judged_votes, rows_on, votes_on};
 ghost use Rattle.sql_load.specs.WholeReading.{IsReading};
 ghost use Rattle.sql_schema.specs.Statements.{ChangesNothing, IsRead};
 ghost use Rattle.sqlite.specs.Held.{state};
 ghost use Rattle.sqlite.specs.State.{IsUnchanged};
 
+use crate::fault::LoadError;
 use crate::own_rows::filed;
 use crate::query_records::{items, records_found};
 use desk_words::{CastMark, Filed, MeetingId, Poll};
 use office_validation::are_casts;
-use sql_assemble::LoadError;
 use sql_queries::casts::OnResolution;
 use sql_stored::{Query, RowKey};
 use sqlite::{Alter, Error, Row, Transaction};

@@ -11,8 +11,8 @@ use Rattle.sql_schema.specs.Statements.{ChangesNothing, IsRead, ReadsTable, WasO
 use Rattle.sql_lemmas.proofs.Frames.{as_one}
 use Rattle.sql_desk_tables.specs.Versions.{AreNoted, NotesVersion}
 use Rattle.sql_desk_tables.proofs.TableDeskLemmas.{desk_notes}
-use Rattle.sql_assemble.specs.LoadResults.{fault_of_error}
-use Rattle.sql_assemble.specs.declared.fault.LoadError.{LoadError}
+use Rattle.sql_load.specs.LoadResults.{fault_of_error}
+use Rattle.sql_load.specs.declared.fault.LoadError.{LoadError}
 use Rattle.sql_load.specs.TableLookUps.{HoldsOfStoredOffice}
 use Rattle.sql_load.proofs.FoundRecordLemmas.{error_returns}
 

@@ -19,7 +19,7 @@ use Rattle.party_views.specs.Views.{meeting_at, polls_in}
 use Rattle.office_decisions.specs.ListsRead.{days_read, first_read, lists_read, with_polls}
 use Rattle.party_views.specs.PublicRead.{counted_up_to}
 use Rattle.row_source.specs.LookUps.{register_in}
-use Rattle.sql_assemble.specs.declared.fault.LoadError.{LoadError}
+use Rattle.sql_load.specs.declared.fault.LoadError.{LoadError}
 use Rattle.sql_load.specs.MeetingRecords.{AreOnItsResolutions}
 use Rattle.sql_load.specs.TableLookUps.{HoldsOfStoredOffice}
 use Rattle.sql_load.proofs.StoredOfficeLemmas.{returns_weaker}

@@ -2,7 +2,7 @@
 //! names.
 ghost use Rattle.std.specs.Prelude.{◌≡◌, Err, MatchResult, filter, map};
 ghost use Rattle.party_views.specs.Views.{meeting_at};
-ghost use Rattle.sql_assemble.specs.declared.fault.LoadError.TheVariants.{Memory};
+ghost use Rattle.sql_load.specs.declared.fault.LoadError.TheVariants.{Memory};
 ghost use Rattle.row_source.specs.LookUps.{appointments_in, authorities_in, casts_in};
 ghost use Rattle.row_source.specs.LookUps.{demands_in, endings_in, presences_in};
 ghost use Rattle.sql_load.specs.MeetingRecords.{without_meeting};
@@ -15,7 +15,7 @@ use desk_words::{
     PresenceMark,
 };
 use keyed_seq::FiledBy;
-use sql_assemble::LoadError;
+use sql_load::LoadError;
 use sql_load::query_records::records_found;
 use sql_queries::{appointments, authorities, casts, demands, endings, presences};
 use sql_rows::InMeeting;

@@ -4,10 +4,9 @@ ghost use Rattle.party_views.specs.Views.{meeting_at};
 ghost use Rattle.sql_load.specs.TableLookUps.{HoldsOfStoredOffice};
 
 use desk_words::{KeyRows, Listing, MeetingId};
-use sql_assemble::{LoadError, key_rows};
 use sql_desk_tables::keys::Keys;
-use sql_load::listing;
 use sql_load::query_records::{counted, first, records_found};
+use sql_load::{LoadError, key_rows, listing};
 use sql_queries::meetings;
 use sql_rows::MeetingRow;
 use sql_stored::find;

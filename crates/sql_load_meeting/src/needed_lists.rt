@@ -17,9 +17,8 @@ use crate::parts::{
 };
 use desk_words::{DayList, MeetingId, MeetingLists, OfficeRequest, Party};
 use office_days::Closed;
-use sql_assemble::LoadError;
 use sql_desk_tables::desk;
-use sql_load::read_closed;
+use sql_load::{LoadError, read_closed};
 use sqlite::{Alter, Transaction};
 use std::alloc::Global;
 

@@ -17,9 +17,8 @@ use crate::by_receipt::{
 use desk_words::{
     Filed, Listing, Meeting, MeetingId, MeetingLists, OfficeRequest, Party, Poll, RegisterRow,
 };
-use sql_assemble::{LoadError, register_rows};
 use sql_load::query_records::{items, records_found};
-use sql_load::{counted_of, meeting_for, meeting_of, polls_of, polls_on};
+use sql_load::{LoadError, counted_of, meeting_for, meeting_of, polls_of, polls_on, register_rows};
 use sql_queries::register;
 use sql_stored::find;
 use sqlite::{Alter, Transaction};

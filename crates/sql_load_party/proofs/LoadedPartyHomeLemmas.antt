@@ -9,7 +9,7 @@ use Rattle.desk_words.specs.ViewTypes.{MeetingName}
 use Rattle.desk_words.specs.declared.office.MeetingLists.{MeetingLists}
 use Rattle.desk_words.specs.declared.office.OfficeLists.{OfficeLists}
 use Rattle.party_views.specs.Views.{meeting_at}
-use Rattle.sql_assemble.specs.declared.fault.LoadError.{LoadError}
+use Rattle.sql_load.specs.declared.fault.LoadError.{LoadError}
 use Rattle.sql_load_party.specs.LookUpSteps.{KeepsStoredTables, LeavesTables, ShowsMeeting}
 use Rattle.sql_load.specs.TableLookUps.{HoldsOfStoredOffice, IsLookUpFailure}
 use Rattle.sql_load.proofs.StoredOfficeLemmas.{returns_weaker}

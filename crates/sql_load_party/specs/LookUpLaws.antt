@@ -9,8 +9,8 @@ use Rattle.desk_words.specs.declared.office.MeetingLists.{MeetingLists}
 use Rattle.party_views.specs.Views.{meeting_at}
 use Rattle.sql_model.specs.OfficeRecords.{office_in}
 use Rattle.sql_load.proofs.ReadingLemmas.{changes_then, desk_same, read_first, read_second, unchanged_then}
-use Rattle.sql_assemble.specs.declared.fault.LoadError.{LoadError}
-use Rattle.sql_assemble.specs.declared.fault.LoadError.TheVariants.{Memory}
+use Rattle.sql_load.specs.declared.fault.LoadError.{LoadError}
+use Rattle.sql_load.specs.declared.fault.LoadError.TheVariants.{Memory}
 use Rattle.sql_load_party.specs.LookUpSteps.{KeepsStoredTables, LeavesTables, ShowsMeeting}
 use Rattle.sql_load.specs.TableLookUps.{IsLookUpFailure}
 

@@ -2,7 +2,7 @@
 ghost use Rattle.std.specs.Prelude.{◌≡◌, MatchResult, filter, length, map};
 ghost use Rattle.std.specs.Option.{option_map_or};
 ghost use Rattle.desk_words.specs.declared.records.PresenceMark.{PresenceMark};
-ghost use Rattle.sql_assemble.specs.declared.fault.LoadError.TheVariants.{Memory};
+ghost use Rattle.sql_load.specs.declared.fault.LoadError.TheVariants.{Memory};
 ghost use Rattle.proxy_rules.specs.Holdings.{claim_of, is_ended_of, is_given_by};
 ghost use Rattle.proxy_rules.specs.Parties.{authorises, is_authority_of, is_cast_by, is_demanded_by, is_presence_of, names};
 ghost use Rattle.proxy_rules.specs.Shares.{row_of, shares_by, shares_of};
@@ -20,7 +20,7 @@ use desk_words::{
 use party_views::OwnCasts;
 use proxy_rules::{Claim, claims_in, shares};
 use row_source::GivenTo;
-use sql_assemble::LoadError;
+use sql_load::LoadError;
 use sql_load::query_records::{counted, first, items, records_found};
 use sql_queries::{appointments, authorities, casts, demands, endings, presences, register};
 use sql_stored::find;

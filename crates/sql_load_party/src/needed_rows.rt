@@ -21,7 +21,7 @@ use desk_words::{
 use party_views::{OwnRows, Reads, reads_of};
 use proxy_rules::Claim;
 use row_source::{GivenTo, RowSource};
-use sql_assemble::LoadError;
+use sql_load::LoadError;
 use sqlite::{Alter, Transaction};
 use std::alloc::Global;
 

@@ -2,14 +2,13 @@
 ghost use Rattle.std.specs.Prelude.{◌≡◌, MatchResult};
 ghost use Rattle.party_views.specs.OwnViews as own;
 ghost use Rattle.party_views.specs.Views.{own_of};
-ghost use Rattle.sql_assemble.specs.declared.fault.LoadError.TheVariants.{Memory};
+ghost use Rattle.sql_load.specs.declared.fault.LoadError.TheVariants.{Memory};
 ghost use Rattle.sql_load.specs.TableLookUps.{HoldsOfStoredOffice};
 
 use crate::needed_rows::read_own_rows;
 use desk_words::{MeetingId, Moment, Party};
 use party_views::{OwnRows, OwnView, own_from};
-use sql_assemble::LoadError;
-use sql_load::{OwnedRecord, read_public};
+use sql_load::{LoadError, OwnedRecord, read_public};
 use sqlite::{Alter, Transaction};
 use std::alloc::Global;
 

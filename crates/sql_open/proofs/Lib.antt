@@ -2,11 +2,13 @@ pub mod CrashLemmas
 pub mod EmptyLemmas
 pub mod FaultLemmas
 pub mod MakingLemmas
+pub mod MigratedMeaningLemmas
+pub mod MigratedMovingLemmas
 pub mod OneSchema
 pub mod OpenedAskingLemmas
 pub mod OpenedFoundLemmas
-pub mod OpenedPreservedLemmas
 pub mod OpenedMoveLemmas
+pub mod OpenedPreservedLemmas
 pub mod OpeningLemmas
 pub mod ReopeningLemmas
 pub mod RisingLemmas

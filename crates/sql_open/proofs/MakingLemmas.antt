@@ -10,7 +10,7 @@ use Rattle.sql_schema.specs.Statements.{AddsFirst, CommitsNothing, Does}
 use Rattle.sql_schema.specs.Tables.{desk_schema, no_schema}
 use Rattle.sql_lemmas.proofs.Frames.{empty_is_desk, twos_apart, twos_declared}
 use Rattle.sql_lemmas.proofs.Making.{extends_empty}
-use Rattle.sql_migrate.specs.NewTables.{IsMaking}
+use Rattle.sql_open.specs.NewTables.{IsMaking}
 use Rattle.sql_open.specs.NewDesk.{AreMade, LeavesEmptyDesk}
 use Rattle.sql_open.proofs.CrashLemmas.{nothing_then}
 use Rattle.sql_open.proofs.EmptyLemmas.{noted}

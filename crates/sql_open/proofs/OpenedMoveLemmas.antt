@@ -9,7 +9,7 @@ use Rattle.sqlite_trees.specs.declared.store.Store as store
 use Rattle.sql_model.specs.MigratedRecords.{IsMoved}
 use Rattle.sql_model.specs.OfficeRecords.{FlatLists, flat_one, flat_two, office_of_records, office_one}
 use Rattle.sql_model.specs.Standing.{HasNoOffice, HasNoOfficeBy, IsVersionOf, one}
-use Rattle.sql_migrate.specs.Migration.{IsFirst, IsSecond, MovesTables}
+use Rattle.sql_open.specs.Migration.{IsFirst, IsSecond, MovesTables}
 use Rattle.sql_schema.specs.Statements.{layout_one}
 use Rattle.sql_schema.specs.Tables.{schema_one}
 use Rattle.sql_desk_tables.specs.ColumnChecks.{HasColumnsOf}

@@ -11,8 +11,8 @@ use Rattle.desk_words.specs.declared.office.OfficeLists.{OfficeLists}
 use Rattle.sql_schema.specs.Statements.{HasTables, IsDesk, IsDeskOf, IsRising, Layout, layout_two}
 use Rattle.sql_model.specs.OfficeRecords.{office_in}
 use Rattle.sql_model.specs.Standing.{IsVersion, Stands}
-use Rattle.sql_assemble.specs.declared.fault.LoadError.{LoadError}
-use Rattle.sql_assemble.specs.declared.fault.LoadError.TheVariants as reading
+use Rattle.sql_load.specs.declared.fault.LoadError.{LoadError}
+use Rattle.sql_load.specs.declared.fault.LoadError.TheVariants as reading
 use Rattle.sql_load.specs.Judging.{IsJudged}
 use Rattle.sql_open.proofs.OneSchema.{one_schema}
 use Rattle.sql_open.specs.Opening.{IsVerdict, fault_of_reading}

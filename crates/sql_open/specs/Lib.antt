@@ -1,6 +1,8 @@
 pub mod Crashes
 pub mod Known
+pub mod Migration
 pub mod NewDesk
+pub mod NewTables
 pub mod Opened
 pub mod Opening
 pub mod OpeningByMigration

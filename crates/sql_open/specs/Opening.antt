@@ -17,8 +17,8 @@ use Rattle.sql_load.specs.Judging.{HasOffice}
 use Rattle.sql_schema.specs.Statements.{ChangesNothing, IsDesk, IsRead, WasOpen}
 use Rattle.sql_desk_tables.specs.ColumnChecks.{HasColumnsOf}
 use Rattle.sql_desk_tables.specs.Versions.{AreNoted}
-use Rattle.sql_assemble.specs.declared.fault.LoadError.{LoadError}
-use Rattle.sql_assemble.specs.declared.fault.LoadError.TheVariants as reading
+use Rattle.sql_load.specs.declared.fault.LoadError.{LoadError}
+use Rattle.sql_load.specs.declared.fault.LoadError.TheVariants as reading
 use Rattle.sql_model.specs.Standing.{HasNoOffice, HasNoOfficeBy, HasNoVersion, IsNewer, IsVersionOf}
 use Rattle.sql_desk_tables.specs.declared.columns.ColumnError.{ColumnError}
 use Rattle.sql_desk_tables.specs.declared.columns.ColumnError.TheVariants as column

@@ -11,7 +11,7 @@ use Rattle.sql_model.specs.MigratedRecords.{IsMoved}
 use Rattle.sql_model.specs.OfficeRecords.{office_one}
 use Rattle.sql_model.specs.Standing.{HasNoOfficeBy, IsVersionOf, Stands, one}
 use Rattle.sql_desk_tables.specs.ColumnChecks.{HasColumnsOf}
-use Rattle.sql_migrate.specs.Migration.{IsFirst}
+use Rattle.sql_open.specs.Migration.{IsFirst}
 use Rattle.sql_open.specs.Known.{IsMadeAs}
 use Rattle.sql_open.specs.WholeDesk.{IsWhole}
 use Rattle.sql_open.specs.declared.fault.OpenFault.{OpenFault}

@@ -1,4 +1,5 @@
-//! The tables of a desk: made in a database that holds nothing, and opened where they were kept.
+//! The tables of a desk: made in a database that holds nothing, and opened where they were kept, those
+//! of version 1 moved to version 2.
 #![tactic(auto)]
 
 mod creation;
@@ -6,7 +7,9 @@ mod fault;
 mod first;
 pub mod laws;
 mod making;
+mod migration;
 mod moving;
+mod new_tables;
 mod opening;
 mod version;
 

@@ -1,10 +1,11 @@
 //! The tables of a desk that holds nothing yet.
 ghost use Rattle.std.specs.Prelude.{◌≡◌};
-ghost use Rattle.sql_migrate.specs.NewTables.{IsMaking};
+ghost use Rattle.sql_open.specs.NewTables.{IsMaking};
 ghost use Rattle.sql_open.specs.NewDesk.{LeavesEmptyDesk};
 ghost use Rattle.sql_schema.specs.Tables.{desk_schema, no_schema, schema_one, up_to_casts};
 ghost use Rattle.sql_schema.specs.Tables.{up_to_presences_before_sessions, up_to_register};
 
+use crate::new_tables::make_later;
 use sql_desk_tables::closed::ClosedDays;
 use sql_desk_tables::keys::Keys;
 use sql_desk_tables::register::Register;
@@ -20,7 +21,6 @@ use sql_meeting_tables::indexes::{
 };
 use sql_meeting_tables::polls_before_sessions::PollsBeforeSessions;
 use sql_meeting_tables::presences_before_sessions::PresencesBeforeSessions;
-use sql_migrate::make_later;
 use sql_stored::{make, make_index};
 use sqlite::{Alter, Error, Transaction};
 

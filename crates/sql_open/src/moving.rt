@@ -1,6 +1,6 @@
 //! The desk of version 1, which is opened as it is moved.
 ghost use Rattle.std.specs.Prelude.{◌≡◌, ◌≢◌, false, Err, IsTrue, OnErr, OnOk};
-ghost use Rattle.sql_migrate.specs.Migration.{IsFirst};
+ghost use Rattle.sql_open.specs.Migration.{IsFirst};
 ghost use Rattle.sql_open.specs.Crashes.{LeavesItself};
 ghost use Rattle.sql_open.specs.Known.{AreOpened, IsMadeAs};
 ghost use Rattle.sql_open.specs.OpeningByMigration.{HoldsMoved, IsMove, MayMove, MovesWhole};
@@ -17,9 +17,9 @@ ghost use Rattle.sqlite.specs.State.{HasCleanDisk, Survives};
 use crate::creation::rests;
 use crate::fault::OpenFault;
 use crate::first::judge_declared;
+use crate::migration::move_tables;
 use crate::opening::{judge_columns, judge_tables};
 use crate::version::KnownVersion;
-use sql_migrate::move_tables;
 use sqlite::{Alter, Connection, Transaction};
 use std::alloc::Global;
 

@@ -8,7 +8,7 @@ ghost use Rattle.sql_schema.specs.Contents.{desk};
 ghost use Rattle.sql_schema.specs.Statements.{WasOpen, records_in};
 ghost use Rattle.sql_rows.specs.Meanings.{all_meanings};
 ghost use Rattle.sql_desk_tables.specs.Versions.{AreNoted, ShowsVersions};
-ghost use Rattle.sql_assemble.specs.LoadResults.{ReadAgrees, any_at_all};
+ghost use Rattle.sql_load.specs.LoadResults.{ReadAgrees, any_at_all};
 ghost use Rattle.sqlite.specs.Held.{state};
 ghost use Rattle.sqlite.specs.Order.{Row};
 ghost use Rattle.sqlite.specs.State.{HasCleanDisk, Survives};

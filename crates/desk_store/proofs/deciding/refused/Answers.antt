@@ -3,7 +3,7 @@ use Rattle.desk_words.specs.Rulings as ruling
 use Rattle.desk_words.specs.declared.answer.Answer.{Answer}
 use Rattle.desk_words.specs.declared.change.Change.{Change}
 use Rattle.desk_words.specs.declared.office.OfficeLists.{OfficeLists}
-use Rattle.sql_assemble.specs.LoadResults.{fault_of_error}
+use Rattle.sql_load.specs.LoadResults.{fault_of_error}
 use Rattle.sql_load_meeting.proofs.LoadedMeetingDayLemmas.{asked_so, asked_stop}
 use Rattle.desk_store.proofs.DeskReadLemmas.{returned_office}
 use Rattle.desk_store.proofs.deciding.refused.Goals as goal

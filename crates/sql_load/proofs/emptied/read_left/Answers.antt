@@ -8,8 +8,8 @@ use Rattle.vocabulary.specs.OptionSteps.{◌>>=◌, guard}
 use Rattle.sql_load.specs.WholeReading.{IsReading}
 use Rattle.sql_load.proofs.ReadingLemmas.{left_is, stop, then}
 use Rattle.sql_load.proofs.emptied.read_left.Goals as goal
-use Rattle.sql_assemble.specs.LoadResults.{any_at_all}
-use Rattle.sql_assemble.specs.declared.fault.LoadError.{LoadError}
+use Rattle.sql_load.specs.LoadResults.{any_at_all}
+use Rattle.sql_load.specs.declared.fault.LoadError.{LoadError}
 
 -- what is read of one table after another is what is read of them all
 as_one : {S : Type 0} (g : store.Ghosts S) (a b : Held S) (r : Result (Unit {0}) LoadError)

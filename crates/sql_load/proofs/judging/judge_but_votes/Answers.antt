@@ -1,8 +1,8 @@
 use Rattle.std.proofs.Common.{◌≡◌, Err, Ok, Some, rules, sym, ◌∙◌}
 use Rattle.desk_words.specs.Office.{is_meeting}
 use Rattle.vocabulary.specs.OptionSteps.{◌>>=◌, guard}
-use Rattle.sql_assemble.specs.LoadResults.{any_at_all}
-use Rattle.sql_assemble.specs.declared.fault.LoadError.TheVariants.{Memory, NoOffice}
+use Rattle.sql_load.specs.LoadResults.{any_at_all}
+use Rattle.sql_load.specs.declared.fault.LoadError.TheVariants.{Memory, NoOffice}
 use Rattle.sql_load.specs.Judging.{judged_but_votes}
 use Rattle.sql_load.specs.MeetingReading.{but_votes}
 use Rattle.sql_load.proofs.MeetingReadLemmas.{judged_stop, last_known, out_of_memory}

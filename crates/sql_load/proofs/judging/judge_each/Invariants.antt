@@ -1,7 +1,7 @@
 use Rattle.std.proofs.Common.{◌≡◌, Ok, Some}
 use Rattle.sqlite.specs.Held.{state}
 use Rattle.sql_schema.specs.Statements.{IsRead}
-use Rattle.sql_assemble.specs.LoadResults.{any_at_all}
+use Rattle.sql_load.specs.LoadResults.{any_at_all}
 use Rattle.sql_load.specs.Judging.{judged_in, rows_judged}
 use Rattle.sql_load.specs.WholeReading.{IsReading}
 use Rattle.sql_load.proofs.MeetingReadLemmas.{first_counted}

@@ -1,7 +1,7 @@
 use Rattle.std.proofs.Common.{◌≡◌, ◌++◌, ◌∷◌, ◌+◌, [], Err, Ok, Some, refl, take, rules, sym, ap, ◌∙◌}
 use Rattle.std.proofs.lemmas.List.{take_all, take_more}
-use Rattle.sql_assemble.specs.LoadResults.{any_at_all}
-use Rattle.sql_assemble.specs.declared.fault.LoadError.TheVariants.{Memory}
+use Rattle.sql_load.specs.LoadResults.{any_at_all}
+use Rattle.sql_load.specs.declared.fault.LoadError.TheVariants.{Memory}
 use Rattle.sql_load.specs.Judging.{judged_but_votes, judged_in}
 use Rattle.sql_load.specs.StoredRows.{counted_on}
 use Rattle.sql_load.specs.Votes.{judged_votes}

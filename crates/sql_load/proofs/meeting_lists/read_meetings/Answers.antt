@@ -2,8 +2,8 @@ use Rattle.std.proofs.Common.{◌≡◌, ◌+◌, ◌++◌, ◌∷◌, [], Err, 
 use Rattle.std.specs.List.{list_all}
 use Rattle.std.proofs.lemmas.List.{take_more}
 use Rattle.desk_words.specs.Office.{is_meeting}
-use Rattle.sql_assemble.specs.LoadResults.{any_at_all}
-use Rattle.sql_assemble.specs.declared.fault.LoadError.TheVariants.{Memory}
+use Rattle.sql_load.specs.LoadResults.{any_at_all}
+use Rattle.sql_load.specs.declared.fault.LoadError.TheVariants.{Memory}
 use Rattle.sql_load.specs.MeetingReading.{lists_in, meetings_in}
 use Rattle.sql_load.specs.WholeReading.{IsReading}
 use Rattle.sql_load.proofs.MeetingReadLemmas.{as_any, first_lists, lists_stop, lists_turn, out_of_memory}

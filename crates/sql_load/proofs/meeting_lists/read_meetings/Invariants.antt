@@ -2,7 +2,7 @@ use Rattle.std.proofs.Common.{◌≡◌, Ok, Some}
 use Rattle.sqlite.specs.Held.{state}
 use Rattle.sql_schema.specs.Contents as table
 use Rattle.sql_schema.specs.Statements.{IsRead, records_in}
-use Rattle.sql_assemble.specs.LoadResults.{any_at_all}
+use Rattle.sql_load.specs.LoadResults.{any_at_all}
 use Rattle.sql_load.specs.WholeReading.{IsReading}
 use Rattle.sql_load.proofs.MeetingReadLemmas.{first_lists}
 use Rattle.sql_load.proofs.meeting_lists.read_meetings.Given as goal

@@ -1,7 +1,7 @@
 use Rattle.std.proofs.Common.{Err, ◌≡◌, subst, sym}
 use Rattle.std.specs.Prelude.{MatchResult}
 use Rattle.sql_rows.specs.Meanings.{all_meanings}
-use Rattle.sql_assemble.specs.LoadResults.{ReadAgrees, any_at_all, fault_of_error}
+use Rattle.sql_load.specs.LoadResults.{ReadAgrees, any_at_all, fault_of_error}
 use Rattle.sql_load.specs.MeetingReading.{rows_of_meeting}
 use Rattle.sql_load.proofs.MeetingReadLemmas.{own_read}
 use Rattle.sql_load.proofs.own_rows.own.Goals as goal

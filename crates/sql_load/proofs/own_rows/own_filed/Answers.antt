@@ -1,6 +1,6 @@
 use Rattle.std.proofs.Common.{◌≡◌, Err, Ok, rules, subst, sym}
-use Rattle.sql_assemble.specs.LoadResults.{any_at_all}
-use Rattle.sql_assemble.specs.declared.fault.LoadError.TheVariants.{Memory}
+use Rattle.sql_load.specs.LoadResults.{any_at_all}
+use Rattle.sql_load.specs.declared.fault.LoadError.TheVariants.{Memory}
 use Rattle.sql_load.specs.MeetingReading.{own_in}
 use Rattle.sql_load.specs.WholeReading.{IsReading}
 use Rattle.sql_load.proofs.MeetingReadLemmas.{out_of_memory}

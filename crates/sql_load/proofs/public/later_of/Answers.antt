@@ -4,7 +4,7 @@ use Rattle.desk_words.specs.declared.office.OfficeLists.{OfficeLists}
 use Rattle.desk_words.specs.declared.records.Session.{Session}
 use Rattle.sql_rows.specs.declared.stored_records.Numbered.{Numbered}
 use Rattle.sql_schema.specs.Contents as table
-use Rattle.sql_assemble.specs.OwnLists.{are_few, sessions_own}
+use Rattle.sql_load.specs.OwnLists.{are_few, sessions_own}
 use Rattle.sql_load.specs.MeetingRecords.{later_in}
 use Rattle.sql_load.proofs.FoundRecordLemmas.{items_returned, yields_return}
 use Rattle.sql_load.proofs.NamedMeetingLemmas.{later_is}

@@ -1,6 +1,6 @@
 use Rattle.std.proofs.Common.{Ok, subst, sym}
 use Rattle.sql_schema.specs.Contents.{casts}
-use Rattle.sql_assemble.specs.LoadResults.{any_at_all}
+use Rattle.sql_load.specs.LoadResults.{any_at_all}
 use Rattle.sql_load.specs.Votes.{rows_on, votes_on}
 use Rattle.sql_load.specs.WholeReading.{IsReading}
 use Rattle.sql_load.proofs.MeetingReadLemmas.{own_read}

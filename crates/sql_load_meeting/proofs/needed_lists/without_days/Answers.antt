@@ -1,5 +1,5 @@
 use Rattle.std.proofs.Common.{◌≡◌, Err, rules}
-use Rattle.sql_assemble.specs.LoadResults.{fault_of_error}
+use Rattle.sql_load.specs.LoadResults.{fault_of_error}
 use Rattle.sql_load_meeting.proofs.LoadedMeetingDayLemmas.{asked_so, asked_stop}
 use Rattle.sql_load_meeting.proofs.needed_lists.without_days.Goals as goal
 

@@ -1,7 +1,7 @@
 use Rattle.std.proofs.Common.{◌≡◌, List, map, subst, ◌∙◌}
 use Rattle.std.specs.Prelude.{MatchResult}
 use Rattle.desk_words.specs.declared.records.PresenceMark.{PresenceMark}
-use Rattle.sql_assemble.specs.declared.fault.LoadError.TheVariants as fault
+use Rattle.sql_load.specs.declared.fault.LoadError.TheVariants as fault
 use Rattle.sql_load.proofs.StoredOfficeLemmas.{made_returns, holds_so}
 use Rattle.sql_load_party.proofs.look_ups.presences_of.Goals as goal
 

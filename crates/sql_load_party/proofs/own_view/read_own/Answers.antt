@@ -4,7 +4,7 @@ use Rattle.party_views.specs.OwnViews as own
 use Rattle.party_views.specs.Public.{PublicRecord}
 use Rattle.party_views.specs.Views.{public_of}
 use Rattle.party_views.specs.declared.own_rows.OwnRows.{OwnRows}
-use Rattle.sql_assemble.specs.declared.fault.LoadError.TheVariants as fault
+use Rattle.sql_load.specs.declared.fault.LoadError.TheVariants as fault
 use Rattle.sql_load.proofs.StoredOfficeLemmas.{made_returns, holds_after, holds_both, holds_so, holds_stop}
 use Rattle.sql_load_party.proofs.own_view.read_own.Goals as goal
 

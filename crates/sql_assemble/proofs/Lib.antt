@@ -1,2 +1,0 @@
-pub mod AssembledListLemmas
-pub mod AssembledOrderLemmas

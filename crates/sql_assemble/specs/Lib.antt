@@ -1,2 +1,0 @@
-pub mod LoadResults
-pub mod OwnLists

@@ -1,2 +1,0 @@
-pub mod MigratedMeaningLemmas
-pub mod MigratedMovingLemmas

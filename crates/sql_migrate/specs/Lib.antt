@@ -1,2 +1,0 @@
-pub mod Migration
-pub mod NewTables
