@@ -1,4 +1,4 @@
-//! What is told of the office in two files: the rows of all tables, and what its book replies.
+//! What shows of the office in two files: the rows of all tables, and what its book replies.
 use crate::calls;
 use case_desks::{Outcome, failure_word, replies_of, word};
 use desk_store::{Desk, HandedBack};
@@ -27,7 +27,7 @@ const TABLES: [&str; 17] = [
     "SELECT * FROM polls2",
 ];
 
-/// Adds a value to what is told.
+/// Adds a value to what shows.
 fn add_value(alloc: Global, value: ValueRef, shown: &mut Vec<u8>) -> Result<(), AllocError> {
     match value {
         ValueRef::Text(text) => shown.extend_from_slice(text)?,
@@ -40,7 +40,7 @@ fn add_value(alloc: Global, value: ValueRef, shown: &mut Vec<u8>) -> Result<(), 
     Ok(())
 }
 
-/// Adds the values of a row to what is told, with this byte before each that is not the first.
+/// Adds the values of a row to what shows, with this byte before each that is not the first.
 fn add_row(alloc: Global, row: &Row, parting: u8, shown: &mut Vec<u8>) -> Result<(), AllocError> {
     for at in 0..row.column_count() {
         if let Ok(value) = row.get_ref(at) {
@@ -146,7 +146,7 @@ fn replies<S: Alter + Drop>(alloc: Global, conn: Connection<S>, lines: &[&str]) 
     }
 }
 
-/// What was told, and behind it an answer that is no fault.
+/// What showed, and behind it an answer that is no fault.
 fn joined(mut shown: Vec<u8>, answer: Outcome) -> Outcome {
     let more = answer?;
     match shown.extend_from_slice(&more) {
@@ -155,7 +155,7 @@ fn joined(mut shown: Vec<u8>, answer: Outcome) -> Outcome {
     }
 }
 
-/// What is told of a database, and its store: the rows of all tables as they are before it is
+/// What shows of a database, and its store: the rows of all tables as they are before it is
 /// opened, and what its book then replies to each of some calls, or why it is not opened.
 pub fn look<S: Alter + Drop>(
     alloc: Global,

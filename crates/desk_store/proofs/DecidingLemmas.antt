@@ -1,4 +1,4 @@
--- What is decided of what was told of the office.
+-- What is decided of what was read of the office.
 use Rattle.std.proofs.Common.{◌≡◌, Option, Some, None, Ok, Result, IfOk, IsTrue, refl, subst, sym, ◌∙◌, arith}
 use Rattle.std.specs.Prelude.{option_map}
 use Rattle.sqlite.specs.Held.{Held, state}
@@ -30,7 +30,7 @@ use Rattle.desk_store.proofs.DeskReadLemmas.{always, ok_weaker}
 use Rattle.desk_store.proofs.KeepingLemmas.{stands_same}
 
 module _ {S : Type 0} (g : store.Ghosts S) (a b : Held S) where
-  -- what is made of what was told
+  -- what is made of what was read
   pub returned_made : {X Y : Type 0} (x : X) (r : Result Y LoadError) (P : OfficeLists → X → Type 0) (Q : OfficeLists → Y → Type 0) → HoldsOfStoredOffice g a b (Ok x) P
       → ((office : OfficeLists) → IsTrue (is_office office) → P office x → IfOk r (Q office)) → HoldsOfTables g a b r Q
   returned_made x r P Q returned next = record {
@@ -39,7 +39,7 @@ module _ {S : Type 0} (g : store.Ghosts S) (a b : Held S) where
     changes = returned.changes;
   }
 
-  -- what is told is so in another way too
+  -- what is read holds in another form too
   pub returned_also : {X : Type 0} (r : Result X LoadError) (P Q : OfficeLists → X → Type 0) → HoldsOfTables g a b r P
       → ((office : OfficeLists) → IsTrue (is_office office) → (x : X) → P office x → Q office x) → HoldsOfTables g a b r Q
   returned_also r P Q returned next = record {
@@ -48,22 +48,22 @@ module _ {S : Type 0} (g : store.Ghosts S) (a b : Held S) where
     changes = returned.changes;
   }
 
-  -- what is told where something is so, is told where it is so of the office for which the tables stand
+  -- what holds where something is so, holds where it is so of the office for which the tables stand
   pub holds_where : {X : Type 0} (r : Result X LoadError) (IsSo : OfficeLists → Type 0) (P : OfficeLists → X → Type 0) → HoldsOfTables g a b r (λ office x. IsSo office → P office x)
       → (HasCleanDisk (state g a) → (office : OfficeLists) → Stands (state g a) office → IsSo office) → HoldsOfTables g a b r P
-  holds_where r IsSo P told so = record {
+  holds_where r IsSo P returned so = record {
     holds = λ clean office stands.
-        let early : HasCleanDisk (state g a) = omega (arith, told.changes.crash.clean, clean) in
-        ok_weaker (λ x. IsSo office → P office x) (P office) r (λ x next. next (so early office stands)) (told.holds clean office stands);
-    same = told.same;
-    changes = told.changes;
+        let early : HasCleanDisk (state g a) = omega (arith, returned.changes.crash.clean, clean) in
+        ok_weaker (λ x. IsSo office → P office x) (P office) r (λ x next. next (so early office stands)) (returned.holds clean office stands);
+    same = returned.same;
+    changes = returned.changes;
   }
 
-  -- what is told is told where something is so, too
+  -- what holds anyway holds where something is so, too
   pub holds_there : {X : Type 0} (r : Result X LoadError) (IsSo : OfficeLists → Type 0) (P : OfficeLists → X → Type 0) → HoldsOfTables g a b r P → HoldsOfTables g a b r (λ office x. IsSo office → P office x)
-  holds_there r IsSo P told = returned_also r P (λ office x. IsSo office → P office x) told (λ office preserved x is _. is)
+  holds_there r IsSo P returned = returned_also r P (λ office x. IsSo office → P office x) returned (λ office preserved x is _. is)
 
--- what is told of what was read before
+-- what holds of what was read before
 pub holds_next : {S X Y : Type 0} (g : store.Ghosts S) (a b c : Held S) (x : X) (r : Result Y LoadError) (P : OfficeLists → X → Type 0) (Q : OfficeLists → Y → Type 0) → HoldsOfStoredOffice g a b (Ok x) P → HoldsOfTables g b c r (λ office y. P office x → Q office y)
     → HoldsOfTables g a c r Q
 holds_next g a b c x r P Q one two = record {

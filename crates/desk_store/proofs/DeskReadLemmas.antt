@@ -1,4 +1,4 @@
--- What is told of the office for which the tables stand.
+-- What is read of the office for which the tables stand.
 use Rattle.std.proofs.Common.{◌≡◌, Option, Some, Ok, Err, Result, IfErr, IfOk, OnOk, IsErr, IsErrAnd, refl, sym, ap, subst, ◌∙◌}
 use Rattle.std.specs.Prelude.{MatchResult}
 use Rattle.sqlite.specs.Held.{Held}
@@ -39,7 +39,7 @@ module _ {S : Type 0} (g : store.Ghosts S) (a b : Held S) where
     changes = reading.changes;
   }
 
--- ---- what is given where an error is told as another
+-- ---- what is given where an error becomes another
 
 pub mapped_is : {X E D : Type 0} (Q : E → D → Type 0) (P : X → Type 0) (s : Result X E) (r : Result X D) (x : X) → MatchResult s (λ x. r ≡ Ok x) (λ e. IsErrAnd r (Q e)) → r ≡ Ok x → IfOk s P → P x
 mapped_is Q P s r x is got h = subst (λ q. IfOk q P) got (mapped_ok Q P s r is h)
@@ -56,13 +56,13 @@ pub error_of : {X E : Type 0} (P : E → Type 0) (r : Result X E) → IsErr r �
 error_of P (Ok x) failed h = absurd cc
 error_of P (Err e) failed h = (e, h)
 
--- ---- what is told of the office that the tables hold
+-- ---- what is read of the office that the tables hold
 
 if_returned : {X : Type 0} (P : X → Type 0) (r : Result X LoadError) → HoldsOrFails P r → IfOk r P
 if_returned P (Ok x) h = h
 if_returned P (Err e) h = tt
 
--- is told of the office for which they stand
+-- is read of the office for which they stand
 pub returned_office : {S X : Type 0} (g : store.Ghosts S) (a b : Held S) (r : Result X LoadError) (P : OfficeLists → X → Type 0) → HoldsOfStoredOffice g a b r P → HoldsOfTables g a b r P
 returned_office g a b r P returned = record {
   holds = λ clean office stands. if_returned (P office) r (returned.holds (clean, stands.desk) office stands.holds stands.preserved);

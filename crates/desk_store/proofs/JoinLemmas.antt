@@ -33,7 +33,7 @@ pub record IsWithin (old new : State) : Type 0 where
   pub was_open : WasOpen old new
   pub preserved : HasCleanDisk new → (office : OfficeLists) → Stands old office → KeepsCommit old new
 
--- what is told in a transaction is told within it
+-- what is read in a transaction is read within it
 pub holds_within : {S X : Type 0} (g : store.Ghosts S) (first b : Held S) (r : Result X LoadError) (IsSo : OfficeLists → X → Type 0) → HoldsOfTables g first b r IsSo → IsWithin (state g first) (state g b)
 holds_within g first b r IsSo returned = record { crash = returned.changes.crash; was_open = returned.changes.was_open; preserved = λ clean office stands. returned.changes.preserved (clean, stands.desk) }
 

@@ -25,7 +25,7 @@ decided_makes : DecidedChangesCanBeMade → (office : OfficeLists) (call : Call)
 decided_makes law office call None is before later = before
 decided_makes law office call (Some change) is before later = law office call change is before later
 
--- where the office is not read, or nothing is decided, nothing is told of it
+-- where the office is not read, or nothing is decided, nothing is said of it
 pub failed_returned : {S X Y : Type 0} (g : store.Ghosts S) (a b : Held S) (IsSo : OfficeLists → X → Type 0) (IsThat : OfficeLists → Y → Type 0) (old : Result X LoadError) (r : Result Y LoadError) → IsErr r → HoldsOfTables g a b old IsSo → HoldsOfTables g a b r IsThat
 failed_returned g a b IsSo IsThat old (Ok y) bad read = absurd cc
 failed_returned g a b IsSo IsThat old (Err e) bad read = record { holds = λ clean office stands. tt; same = λ done. tt; changes = read.changes }

@@ -20,28 +20,24 @@ use Rattle.seq.proofs.SortingLemmas.{IsPermutation-sort_by}
 use Rattle.desk_words.specs.Callers.{party_in}
 use Rattle.desk_words.specs.declared.caller.KeyRow.{KeyRow}
 use Rattle.desk_words.specs.declared.office.MeetingLists.{MeetingLists}
-use Rattle.desk_words.specs.declared.records.Meeting.{Meeting}
-use Rattle.desk_words.specs.declared.records.Poll.{Poll}
 use Rattle.desk_words.specs.declared.records.RegisterRow.{RegisterRow}
 use Rattle.desk_words.specs.declared.records.Resolution.{Resolution}
 use Rattle.desk_words.specs.declared.records.Session.{Session}
 use Rattle.desk_words.specs.SortedLists.{are_keys, are_resolutions, caller_before, day_before, day_count, is_day_list, is_key_list, keep_keys, key_list_of, same_caller, same_secret}
-use Rattle.desk_words.specs.Office.{are_polls, implies, is_loaded_right, is_meeting, is_poll, no_rows, poll_before, are_rows}
+use Rattle.desk_words.specs.Office.{implies, is_loaded_right, is_meeting, is_poll, no_rows, poll_before, are_rows}
 use Rattle.desk_words.specs.Registers.{are_holdings, is_register, keep_limits, member_before, register_of, same_member}
-use Rattle.desk_words.specs.Sessions.{are_sessions, is_opened}
+use Rattle.desk_words.specs.Sessions.{is_opened}
 use Rattle.desk_words.proofs.OfficeFacts.{meeting_facts}
 use Rattle.desk_words.proofs.RegisterLimits.{keep_limits-permutation}
 use Rattle.vocabulary.specs.OptionSteps.{◌>>=◌, guard}
 use Rattle.sql_rows.specs.declared.stored_records.Numbered.{Numbered}
 use Rattle.sql_model.specs.OfficeRecords.{number_before, numbered_from}
-use Rattle.sql_rows.proofs.RowMeaningLemmas.{bound}
 use Rattle.std.proofs.lemmas.Bool.{and_parts}
 use Rattle.sql_load.specs.declared.fault.LoadError.{LoadError}
 use Rattle.sql_load.specs.declared.fault.LoadError.TheVariants as fault
 use Rattle.sql_load.specs.declared.fault.LoadError.TheVariants.{NoOffice}
 use Rattle.sql_load.specs.LoadResults.{ReadErrAgrees, ReadAgrees}
-use Rattle.sql_load.specs.declared.own_records.OwnRecords.{OwnRecords}
-use Rattle.sql_load.specs.OwnLists.{are_few, at_most, unnumbered, lists_own, lists_own_with, number_from, numbered_own, resolutions_own, sessions_own}
+use Rattle.sql_load.specs.OwnLists.{are_few, at_most, unnumbered, number_from, numbered_own}
 
 pub second_false : (a b : Bool) → b ≡ false → (a && b) ≡ false
 second_false true b h = h
@@ -173,58 +169,27 @@ days_made list days preserved up same =
 
 -- ---- the lists of a meeting
 
--- what the lists of a meeting are made of
-record Parts (own : OwnRecords) (m : MeetingLists) : Type 0 where
-  later : List Session
-  resolutions : List Resolution
-  sessions : sessions_own own.sessions ≡ Some later
-  numbered : resolutions_own own.resolutions ≡ Some resolutions
-  is : lists_own_with own later resolutions ≡ m
-
-parts : (own : OwnRecords) (m : MeetingLists) → lists_own own ≡ Some m → Parts own m
-parts own m h =
-    let later = bound (sessions_own own.sessions) (λ later. resolutions_own own.resolutions >>= λ rs. Some (lists_own_with own later rs)) m h in
-    let resolutions = bound (resolutions_own own.resolutions) (λ rs. Some (lists_own_with own later.0 rs)) m later.2 in
-    let same : lists_own_with own later.0 resolutions.0 ≡ m = cc in
-    record { later = later.0; resolutions = resolutions.0; sessions = later.1; numbered = resolutions.1; is = same }
-
--- where its further sessions are none
-pub sessions_wrong : (own : OwnRecords) → ((found : List Session) → sessions_own own.sessions ≡ Some found → are_few found ≡ false) → (m : MeetingLists) → lists_own own ≡ Some m → is_meeting m ≡ false
-sessions_wrong own none m h =
-    let p = parts own m h in
-    let lists = lists_own_with own p.later p.resolutions in
-    let wrong : are_sessions lists.meeting ≡ false = ap (λ b. b && list_all is_opened (take (length p.later) (lists.meeting.first ∷ p.later))) (none p.later p.sessions) in
-    subst (λ (x : MeetingLists). is_meeting x ≡ false) p.is (rw (second_false (are_resolutions p.resolutions) (are_sessions lists.meeting) wrong) refl)
-
-loaded_wrong : (m : MeetingLists) → are_rows m.register ≡ false → is_loaded_right m ≡ false
-loaded_wrong m none = go m.meeting.loaded (no_rows m.register) (is_register m.register) none
+loaded_rows : (m : MeetingLists) → is_loaded_right m ≡ true → are_rows m.register ≡ true
+loaded_rows m right = go m.meeting.loaded (no_rows m.register) (is_register m.register) right
   where
-    go : (loaded none_there register : Bool) → (none_there || register) ≡ false → ((if loaded then register else none_there) && implies (is_opened m.meeting.first) m.meeting.loaded) ≡ false
-    go loaded true register h = absurd (true≢false h)
-    go loaded false true h = absurd (true≢false h)
-    go true false false h = refl
-    go false false false h = refl
+    go : (loaded none_there register : Bool) → ((if loaded then register else none_there) && implies (is_opened m.meeting.first) m.meeting.loaded) ≡ true → (none_there || register) ≡ true
+    go loaded true register h = refl
+    go loaded false true h = refl
+    go true false false h = absurd (true≢false (sym h))
+    go false false false h = absurd (true≢false (sym h))
 
--- where its rows are no register's
-pub rows_wrong : (own : OwnRecords) → are_rows (sort_by member_before own.register) ≡ false → (m : MeetingLists) → lists_own own ≡ Some m → is_meeting m ≡ false
-rows_wrong own none m h =
-    let p = parts own m h in
-    let lists = lists_own_with own p.later p.resolutions in
-    subst (λ (x : MeetingLists). is_meeting x ≡ false) p.is (rw (second_false (are_resolutions p.resolutions && are_sessions lists.meeting) (is_loaded_right lists) (loaded_wrong lists none)) refl)
+-- a meeting's lists have few enough sessions, resolutions and a register
+pub called_right : (m : MeetingLists) → is_meeting m ≡ true → (are_few m.meeting.later && are_resolutions m.meeting.resolutions && are_rows m.register) ≡ true
+called_right m good =
+    let facts = meeting_facts m good in
+    both_true (both_true (first_so (are_few m.meeting.later) (list_all is_opened (take (length m.meeting.later) (m.meeting.first ∷ m.meeting.later))) facts.sessions) facts.resolutions) (loaded_rows m facts.loaded)
 
-polls_wrong_order : (m : Meeting) (polls : List Poll) → ascends_by poll_before polls ≡ false → are_polls m polls ≡ false
-polls_wrong_order m polls h = second_false (list_all (is_poll m) polls) (ascends_by poll_before polls) h
+-- and no two polls on one resolution
+pub polls_right : (m : MeetingLists) → is_meeting m ≡ true → ascends_by poll_before m.polls ≡ true
+polls_right m good = second_so (list_all (is_poll m.meeting) m.polls) (ascends_by poll_before m.polls) (meeting_facts m good).polls
 
--- where a poll stands twice
-pub polls_wrong : (own : OwnRecords) → ascends_by poll_before (sort_by poll_before own.polls) ≡ false → (m : MeetingLists) → lists_own own ≡ Some m → is_meeting m ≡ false
-polls_wrong own none m h =
-    let p = parts own m h in
-    let lists = lists_own_with own p.later p.resolutions in
-    subst (λ (x : MeetingLists). is_meeting x ≡ false) p.is
-    (elim (cases_Bool (is_meeting lists)) [
-      | inl good ↦ absurd (true≢false (sym (meeting_facts lists good).polls ∙ polls_wrong_order lists.meeting lists.polls none))
-      | inr wrong ↦ wrong
-    ])
+pub wrong_meeting : (m : MeetingLists) → (is_meeting m ≡ true → ⊥) → is_meeting m ≡ false
+wrong_meeting m none = elim (cases_Bool (is_meeting m)) [ inl good ↦ absurd (none good) | inr wrong ↦ wrong ]
 
 -- ---- what a list is refused for
 

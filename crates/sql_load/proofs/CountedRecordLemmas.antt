@@ -1,4 +1,4 @@
--- The public record without its resolutions, from what was told of its parts.
+-- The public record without its resolutions, from the readings of its parts.
 use Rattle.std.proofs.Common.{◌≡◌, ◌⊎◌, inl, inr, ◌≤◌, ◌<◌, ◌+◌, ℕ, suc, Bool, true, false, ◌&&◌, cond, nat_le, List, [], ◌∷◌, filter, find, length, map, Option, Some, None, Ok, Err, Result, OnOk, IfOk, IsTrue, refl, sym, ap, subst, ◌∙◌, arith}
 use Rattle.std.specs.Prelude.{MatchResult, option_map, is_some, ◌==◌}
 use Rattle.std.specs.List.{All, AllByRecursion, list_all, slice_get}

@@ -1,4 +1,4 @@
--- What a query found, as what is told of the office.
+-- What a query found, as what is returned of the office.
 use Rattle.std.proofs.Common.{◌≡◌, ℕ, pos, length, Bool, true, false, ◌&&◌, cond, List, [], ◌∷◌, map, filter, find, slice_get, Option, Some, Ok, Err, Result, OnOk, IfOk, IsTrue, refl, sym, ap, subst, ◌∙◌, true≢false}
 use Rattle.std.specs.Prelude.{MatchResult}
 use Rattle.std.specs.Option.{option_map_or}
@@ -37,13 +37,13 @@ pub error_returns : {X : Type 0} (P : X → Type 0) (e : Error) → HoldsOrFails
 error_returns P (SqliteFailure OutOfMemory) = tt
 error_returns P other = tt
 
--- where something is said, it is never told that there is no office
+-- where something is said, the fault is never that there is no office
 pub cause_returns : {X Y : Type 0} (P : Y → Type 0) (right : X → Bool) (e : LoadError) (said : X) (read : Option X) → read ≡ Some said → right said ≡ true → ReadErrAgrees right e read → HoldsOrFails {X = Y} P (Err e)
 cause_returns P right fault.NoOffice said read is good none = absurd (true≢false (sym good ∙ none said is))
 cause_returns P right fault.Store said read is good none = tt
 cause_returns P right fault.Memory said read is good none = tt
 
--- what is said is told, or why it is not
+-- what is said is returned, or why it is not
 pub yields_return : {X : Type 0} (right : X → Bool) (r : Result X LoadError) (said : X) (read : Option X) → ReadAgrees right r read → read ≡ Some said → right said ≡ true → HoldsOrFails (λ x. x ≡ said) r
 yields_return right (Ok x) said read h is good = the_same (sym h ∙ is)
 yields_return right (Err e) said read h is good = cause_returns (λ x. x ≡ said) right e said read is good h
@@ -99,7 +99,7 @@ found_said : {V A : Type 0} {S : Type 0} (g : store.Ghosts S) (a b : Held S) (ro
 found_said g a b rows_in table test (Ok v) was held h = h.0 was held
 found_said g a b rows_in table test (Err e) was held h = tt
 
--- what is told follows from what the records of the tables are
+-- what is returned follows from what the records of the tables are
 pub says : {X : Type 0} (R : X → Type 0) (said : X) (r : Result X LoadError) → R said → HoldsOrFails (λ x. x ≡ said) r → HoldsOrFails R r
 says R said r holds = returns_weaker (λ x. x ≡ said) R r (λ x is. subst R (sym is) holds)
 
@@ -111,7 +111,7 @@ module _ {V A S : Type 0} (g : store.Ghosts S) (a b : Held S) (rows_in : V → L
         rows_return rows_in table.means rows r found (filter test (all flat))
         (found_said g a b rows_in table test rows (all flat) (held (state g a).now.trees flat (all_held (state g a).now.trees flat is)) (finds read))
 
-    -- the records that were found, where what is to be told follows from the records of the tables
+    -- the records that were found, where what is to be returned follows from the records of the tables
     pub found_returned : (R : OfficeLists → List A → Type 0) → ((flat : FlatLists) (office : OfficeLists) → AreOf flat office → IsTrue (is_office office) → R office (filter test (all flat))) → HoldsOfStoredOffice g a b r R
     found_returned R so = record {
       holds = λ read office holds preserved.
@@ -148,7 +148,7 @@ first_passing test [] = refl
 first_passing test (x ∷ xs) =
     elim (test x) as (λ b. slice_get (cond b (x ∷ filter test xs) (filter test xs)) 0 ≡ cond b (Some x) (find test xs)) [ true ↦ refl | false ↦ first_passing test xs ]
 
--- how many records were counted, where what is to be told follows from the records of the tables
+-- how many records were counted, where what is to be returned follows from the records of the tables
 module _ {V A S : Type 0} (g : store.Ghosts S) (a b : Held S) (rows_in : V → List Row) (table : TableOf A) (all : FlatLists → List A) (held : (trees : Trees) (flat : FlatLists) → HoldAll trees flat → records_in table trees ≡ Some (all flat))
     (test : A → Bool) (rows : Result V Error) (finds : IsRead g a b → IfOk rows (λ v. CountsRecords g a b table test (rows_in v))) (changes : ChangesNothing g a b)
     (r : Result ℕ LoadError) (found : MatchResult rows (λ v. (count : ℕ) → rows_in v ≡ (Int (pos count) ∷ []) ∷ [] → r ≡ Ok count) (λ e. r ≡ Err (fault_of_error e))) where

@@ -16,6 +16,7 @@ use Rattle.seq.specs.Sorting.{sort_by}
 use Rattle.vocabulary.specs.Names.{same_name}
 use Rattle.vocabulary.specs.OptionSteps.{◌>>=◌, guard}
 use Rattle.desk_words.specs.Office.{are_casts, is_cast_on, is_meeting, is_office, poll_before, same_meeting}
+use Rattle.desk_words.specs.Registers.{member_before}
 use Rattle.desk_words.specs.SortedLists.{caller_before, day_before, is_day_list, is_key_list}
 use Rattle.desk_words.specs.declared.caller.KeyRow.{KeyRow}
 use Rattle.desk_words.specs.declared.limits.TheConstants.{MOST_MEETINGS}
@@ -23,6 +24,7 @@ use Rattle.desk_words.specs.declared.office.MeetingLists.{MeetingLists}
 use Rattle.desk_words.specs.declared.office.OfficeLists.{OfficeLists}
 use Rattle.desk_words.specs.declared.records.CastMark.{CastMark}
 use Rattle.desk_words.specs.declared.records.Poll.{Poll}
+use Rattle.desk_words.specs.declared.records.RegisterRow.{RegisterRow}
 use Rattle.desk_words.specs.declared.records.Resolution.{Resolution}
 use Rattle.desk_words.specs.declared.records.Session.{Session}
 use Rattle.desk_words.proofs.OfficeFacts.{meeting_facts, office_facts, office_from_facts}
@@ -42,10 +44,9 @@ use Rattle.sql_model.proofs.Names.ListName.{Register, Appointments, Endings, Aut
 use Rattle.sql_load.specs.declared.fault.LoadError.{LoadError}
 use Rattle.sql_load.specs.declared.fault.LoadError.TheVariants.{NoOffice, Store, Memory}
 use Rattle.sql_load.specs.LoadResults.{ReadAgrees, ReadErrAgrees, any_at_all}
-use Rattle.sql_load.specs.OwnLists.{lists_own, lists_own_with, resolutions_own, sessions_own}
-use Rattle.sql_load.specs.declared.own_records.OwnRecords.{OwnRecords}
-use Rattle.sql_load.specs.Judging.{HasOffice, IsJudged, are_meeting_rows, judged_but_votes, judged_days, judged_in, judged_keys, judged_lists, judged_office, rows_judged, same_meeting_row}
-use Rattle.sql_load.specs.MeetingReading.{but_votes, called_in, days_in, given_in, keys_in, lists_in, lists_of_each, meetings_in, office_by_meetings, own_in, polled_in}
+use Rattle.sql_load.specs.OwnLists.{resolutions_own, sessions_own}
+use Rattle.sql_load.specs.Judging.{HasOffice, IsJudged, are_meeting_rows, judged_as, judged_but_votes, judged_days, judged_in, judged_keys, judged_lists, judged_office, rows_judged, same_meeting_row}
+use Rattle.sql_load.specs.MeetingReading.{but_votes, called_in, days_in, given_in, keys_in, lists_in, lists_of_each, lists_of_parts, meetings_in, office_by_meetings, own_in, polled_in, polls_in, register_in, resolutions_in, sessions_in}
 use Rattle.sql_load.specs.MeetingRecords.{without_meeting}
 use Rattle.sql_load.specs.StoredRows.{counted_on, rows_but_votes, stored_rows}
 use Rattle.sql_load.specs.Votes.{judged_votes, votes_on}
@@ -54,20 +55,22 @@ use Rattle.sql_load.proofs.MeetingReadLemmas.{guarded}
 use Rattle.sql_load.proofs.CastPartLemmas.{casts_from, on_any, on_poll, parts_from}
 use Rattle.sql_load.proofs.MeetingRowLemmas.{own_is, says_so}
 use Rattle.sql_load.specs.declared.judging.Judged.{Judged}
-use Rattle.sql_load.proofs.OrderedMeetingLemmas.{judged_as, no_votes, with_votes}
+use Rattle.sql_load.specs.declared.meeting_lists.Given.{Given}
+use Rattle.sql_load.specs.declared.meeting_lists.Polled.{Polled}
+use Rattle.sql_load.proofs.MeetingPartLemmas.{called_as}
+use Rattle.sql_load.proofs.OrderedMeetingLemmas.{no_votes, with_votes}
 use Rattle.sql_load.proofs.PassingLemmas.{AllMean, all_known, all_pass, all_passing, each_passes, mean_of, no_more, passing, rows_pass, tests_more}
 use Rattle.sql_load.proofs.StoredRowLemmas.{AllNamed, all_named_so, each_named_so, its_all, lists_rows, named_all, names, nine_more, shown_length}
 use Rattle.sql_load.proofs.VoteLemmas.{IsOnPoll, has, has_meeting, has_so, keys_differ, keys_of, keys_on, on, on_its_poll, on_one, once_each, once_known, polls_differ, same_resolution, votes_known}
 
 -- ---- where the tables hold records
 
-votes_added : (own : OwnRecords) (votes : List CastMark) → (lists_own own >>= λ lists. Some (record lists { casts = votes })) ≡ lists_own (record own { casts = votes })
-votes_added own votes = go (sessions_own own.sessions) (resolutions_own own.resolutions)
-  where
-    go : (later : Option (List Session)) (resolutions : Option (List Resolution)) → ((later >>= λ s. resolutions >>= λ r. Some (lists_own_with own s r)) >>= λ lists. Some (record lists { casts = votes })) ≡ (later >>= λ s. resolutions >>= λ r. Some (lists_own_with (record own { casts = votes }) s r))
-    go (Some s) (Some r) = refl
-    go (Some s) None = refl
-    go None r = refl
+joined : (row : MeetingRow) (later : Option (List Session)) (resolutions : Option (List Resolution)) (rows : List RegisterRow) (given : Given) (polled : Polled) (votes : List CastMark)
+    → (((later >>= λ s. resolutions >>= λ r. Some (called_as row s r rows)) >>= λ called. Some (lists_of_parts called given polled)) >>= λ lists. Some (record lists { casts = votes }))
+    ≡ (later >>= λ s. resolutions >>= λ r. Some (record (lists_of_parts (called_as row s r rows) given polled) { casts = votes }))
+joined row (Some s) (Some r) rows given polled votes = refl
+joined row (Some s) None rows given polled votes = refl
+joined row None r rows given polled votes = refl
 
 -- the lists of a meeting are those of its records
 lists_same : (trees : Trees) (flat : FlatLists) → HoldAll trees flat → (m : MeetingRow) → lists_in m trees ≡ lists_of flat m
@@ -83,18 +86,14 @@ lists_same trees flat h m =
       own_is table.demands demands_of_meeting.holds m.id trees flat.demands h.demands,
       own_is table.polls polls_of_meeting.holds m.id trees flat.polls h.polls,
       own_is table.casts casts_of_meeting.holds m.id trees flat.casts h.casts,
-    ) (votes_added (record {
-      meeting = m;
-      sessions = of_meeting m.id flat.sessions;
-      resolutions = of_meeting m.id flat.resolutions;
-      register = of_meeting m.id flat.register;
+    ) (joined m (sessions_own (of_meeting m.id flat.sessions)) (resolutions_own (of_meeting m.id flat.resolutions)) (sort_by member_before (of_meeting m.id flat.register)) (record {
       appointments = of_meeting m.id flat.appointments;
       endings = of_meeting m.id flat.endings;
       authorities = of_meeting m.id flat.authorities;
+    }) (record {
       presences = of_meeting m.id flat.presences;
       demands = of_meeting m.id flat.demands;
-      polls = of_meeting m.id flat.polls;
-      casts = [];
+      polls = sort_by poll_before (of_meeting m.id flat.polls);
     }) (of_meeting m.id flat.casts))
 
 each_same : (trees : Trees) (flat : FlatLists) → HoldAll trees flat → (rows : List MeetingRow) → lists_of_each rows trees ≡ lists_of_all flat rows
@@ -131,18 +130,22 @@ own_mean None make found h = absurd cc
 
 are_read : (trees : Trees) (m : MeetingRow) (lists : MeetingLists) → but_votes m trees ≡ Some lists → AreRead trees m
 are_read trees m lists h =
-    let called = bound (called_in m.id trees) _ lists h in
+    let called = bound (called_in m trees) _ lists h in
     let given = bound (given_in m.id trees) _ lists called.2 in
     let polled = bound (polled_in m.id trees) _ lists given.2 in
-    let sessions = bound (own_in table.sessions m.id trees) _ called.0 called.1 in
-    let resolutions = bound (own_in table.resolutions m.id trees) _ called.0 sessions.2 in
-    let register = bound (own_in table.register m.id trees) _ called.0 resolutions.2 in
+    let later = bound (sessions_in m.id trees) _ called.0 called.1 in
+    let numbered = bound (resolutions_in m.id trees) _ called.0 later.2 in
+    let rows = bound (register_in m.id trees) _ called.0 numbered.2 in
+    let sessions = bound (own_in table.sessions m.id trees) _ later.0 later.1 in
+    let resolutions = bound (own_in table.resolutions m.id trees) _ numbered.0 numbered.1 in
+    let register = bound (own_in table.register m.id trees) _ rows.0 rows.1 in
     let appointments = bound (own_in table.appointments m.id trees) _ given.0 given.1 in
     let endings = bound (own_in table.endings m.id trees) _ given.0 appointments.2 in
     let authorities = bound (own_in table.authorities m.id trees) _ given.0 endings.2 in
     let presences = bound (own_in table.presences m.id trees) _ polled.0 polled.1 in
     let demands = bound (own_in table.demands m.id trees) _ polled.0 presences.2 in
-    let polls = bound (own_in table.polls m.id trees) _ polled.0 demands.2 in
+    let ordered = bound (polls_in m.id trees) _ polled.0 demands.2 in
+    let polls = bound (own_in table.polls m.id trees) _ ordered.0 ordered.1 in
     record {
       sessions = own_mean _ _ _ sessions.1;
       resolutions = own_mean _ _ _ resolutions.1;
@@ -160,7 +163,8 @@ each_read trees [] all h = tt
 each_read trees (m ∷ rows) all h =
     let first = bound (lists_in m trees) _ all h in
     let later = bound (lists_of_each rows trees) _ all first.2 in
-    let but = bound (but_votes m trees) _ first.0 first.1 in
+    let votes = bound (own_in table.casts m.id trees) _ first.0 first.1 in
+    let but = bound (but_votes m trees) _ first.0 votes.2 in
     (are_read trees m but.0 but.1, each_read trees rows later.0 later.1)
 
 lists_read : (trees : Trees) (ms : List MeetingRow) (all : List MeetingLists) → records_in table.meetings trees ≡ Some ms → meetings_in trees ≡ Some all → lists_of_each ms trees ≡ Some all
@@ -444,8 +448,8 @@ parts_known trees was held id (p ∷ ps) each = (
 
 voted : (trees : Trees) (was : List (InMeeting CastMark)) → records_in table.casts trees ≡ Some was → (m : MeetingRow) (lists : MeetingLists) → but_votes m trees ≡ Some lists → lists_in m trees ≡ Some (record lists { casts = of_meeting m.id was })
 voted trees was held m lists h =
-    ap (λ (o : Option MeetingLists). o >>= λ l. own_in table.casts m.id trees >>= λ v. Some (record l { casts = v })) h
-    ∙ ap (λ (o : Option (List CastMark)). o >>= λ v. Some (record lists { casts = v })) (own_is table.casts casts_of_meeting.holds m.id trees was held)
+    ap (λ (o : Option (List CastMark)). o >>= λ v. but_votes m trees >>= λ l. Some (record l { casts = v })) (own_is table.casts casts_of_meeting.holds m.id trees was held)
+    ∙ ap (λ (o : Option MeetingLists). o >>= λ l. Some (record l { casts = of_meeting m.id was })) h
 
 lists_of_judged : (trees : Trees) (was : List (InMeeting CastMark)) → records_in table.casts trees ≡ Some was → (ms : List MeetingRow) → AllByRecursion (IsJudgedIn trees) ms → AllByRecursion (λ m. AllByRecursion (λ r. IsOnPoll (polls_at trees) r m) was) ms
     → (all : List MeetingLists) × (lists_of_each ms trees ≡ Some all) × (list_all is_meeting all ≡ true)
@@ -485,7 +489,8 @@ bare lists votes none good = ap (λ l. is_meeting (record lists { casts = l })) 
 meeting_judged : (trees : Trees) (was : List (InMeeting CastMark)) → records_in table.casts trees ≡ Some was → (m : MeetingRow) (x : MeetingLists) → lists_in m trees ≡ Some x → is_meeting x ≡ true
     → ((k : ℕ) × (judged_in m trees ≡ Some k)) × AllByRecursion (λ r. IsOnPoll (polls_at trees) r m) was
 meeting_judged trees was held m x h good =
-    let read = bound (but_votes m trees) (λ l. own_in table.casts m.id trees >>= λ v. Some (record l { casts = v })) x h in
+    let its = bound (own_in table.casts m.id trees) (λ v. but_votes m trees >>= λ l. Some (record l { casts = v })) x h in
+    let read = bound (but_votes m trees) (λ l. Some (record l { casts = its.0 })) x its.2 in
     let lists = read.0 in
     let votes = of_meeting m.id was in
     let whole : x ≡ record lists { casts = votes } = some_is (sym h ∙ voted trees was held m lists read.1) in

@@ -4,6 +4,7 @@ pub mod CastPartLemmas
 pub mod CountedRecordLemmas
 pub mod FoundRecordLemmas
 pub mod JudgedLemmas
+pub mod MeetingPartLemmas
 pub mod MeetingReadLemmas
 pub mod MeetingRowLemmas
 pub mod NamedMeetingLemmas

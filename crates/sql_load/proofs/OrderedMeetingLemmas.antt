@@ -1,6 +1,6 @@
 -- The lists of a meeting that were read have their register in the order of members, so that they are judged as they are.
-use Rattle.std.proofs.Common.{◌≡◌, ℕ, Bool, true, false, if◌then◌else◌, List, [], ◌∷◌, map, Some, None, refl, sym, ap, subst, ◌∙◌, true≢false, inl, inr}
-use Rattle.std.specs.Prelude.{IsPermutation}
+use Rattle.std.proofs.Common.{◌≡◌, Bool, true, false, if◌then◌else◌, List, [], ◌∷◌, map, Some, None, refl, sym, ap, subst, ◌∙◌, true≢false, inl, inr}
+use Rattle.std.specs.Prelude.{IsPermutation, MatchResult, Result, Ok, Err}
 use Rattle.std.proofs.lemmas.Bool.{cases_Bool}
 use Rattle.std.specs.List.{list_all}
 use Rattle.std.specs.Cmp.{first_so, second_so}
@@ -19,14 +19,17 @@ use Rattle.desk_words.specs.declared.office.OfficeLists.{OfficeLists}
 use Rattle.desk_words.proofs.OfficeFacts.{meeting_facts, meeting_from_facts, office_facts, register_ascends}
 use Rattle.sql_rows.specs.declared.stored_records.MeetingRow.{MeetingRow}
 use Rattle.sql_rows.proofs.RowMeaningLemmas.{bound}
-use Rattle.sql_schema.specs.Contents.{casts}
+use Rattle.sql_schema.specs.Contents as table
 use Rattle.sql_model.proofs.FlatChanges.{some_is}
 use Rattle.sql_model.proofs.ModelListLemmas.{sort_by-sorted}
-use Rattle.sql_load.specs.OwnLists.{resolutions_own, sessions_own}
 use Rattle.office_validation.specs.Validation.{in_order, meeting_checked, office_in_order}
-use Rattle.sql_load.specs.MeetingReading.{but_votes, called_in, given_in, own_in, polled_in}
-use Rattle.sql_load.specs.StoredRows.{rows_but_votes}
+use Rattle.sql_load.specs.MeetingReading.{but_votes, called_in, given_in, own_in, polled_in, register_in, resolutions_in, sessions_in}
+use Rattle.sql_load.specs.Judging.{judged_as}
+use Rattle.sql_load.specs.LoadResults.{ReadAgrees, ReadErrAgrees, any_at_all}
+use Rattle.sql_load.specs.declared.fault.LoadError.{LoadError}
+use Rattle.sql_load.specs.declared.fault.LoadError.TheVariants.{Memory}
 use Rattle.sql_load.specs.declared.judging.Judged.{Judged}
+use Rattle.sql_load.specs.declared.meeting_lists.Called.{Called}
 use Rattle.sql_load.proofs.MeetingReadLemmas.{guarded}
 
 -- a meeting's lists are those once the register is in order
@@ -69,27 +72,32 @@ unchecked_so m h = go (is_meeting (in_order m)) h
     go true h = absurd cc
     go false h = refl
 
-register_in : (row : MeetingRow) (trees : Trees) (lists : MeetingLists) → but_votes row trees ≡ Some lists → (rows : List RegisterRow) × (lists.register ≡ sort_by member_before rows)
-register_in row trees lists h =
-    let called = bound (called_in row.id trees) _ lists h in
+register_was : (row : MeetingRow) (trees : Trees) (lists : MeetingLists) → but_votes row trees ≡ Some lists → (rows : List RegisterRow) × (lists.register ≡ sort_by member_before rows)
+register_was row trees lists h =
+    let called = bound (called_in row trees) _ lists h in
     let given = bound (given_in row.id trees) _ lists called.2 in
     let polled = bound (polled_in row.id trees) _ lists given.2 in
-    let later = bound (sessions_own called.0.sessions) _ lists polled.2 in
-    let resolutions = bound (resolutions_own called.0.resolutions) _ lists later.2 in
-    (called.0.register, ap (λ (x : MeetingLists). x.register) (sym (some_is resolutions.2)))
-
-abbrev pub judged_as : MeetingLists → Judged
-judged_as lists = record { rows = rows_but_votes lists; polls = lists.polls }
+    let later = bound (sessions_in row.id trees) _ called.0 called.1 in
+    let resolutions = bound (resolutions_in row.id trees) _ called.0 later.2 in
+    let register = bound (register_in row.id trees) _ called.0 resolutions.2 in
+    let rows = bound (own_in table.register row.id trees) _ register.0 register.1 in
+    (rows.0, ap (λ (x : MeetingLists). x.register) (sym (some_is polled.2)) ∙ ap (λ (c : Called). c.register) (sym (some_is register.2)) ∙ sym (some_is rows.2))
 
 -- lists that were read and are right once they are in order are right, and in order
-pub judged_right : (row : MeetingRow) (trees : Trees) (lists x : MeetingLists) → but_votes row trees ≡ Some lists → Some x ≡ meeting_checked lists → (count : ℕ) → count ≡ rows_but_votes x → (guard (is_meeting lists) >>= λ _. Some (judged_as lists)) ≡ Some (record { rows = count; polls = x.polls })
-judged_right row trees lists x h checked count is =
+judged_right : (row : MeetingRow) (trees : Trees) (lists x : MeetingLists) → but_votes row trees ≡ Some lists → Some x ≡ meeting_checked lists → (guard (is_meeting lists) >>= λ _. Some (judged_as lists)) ≡ Some (judged_as x)
+judged_right row trees lists x h checked =
     let so = checked_so lists x checked in
-    let was = register_in row trees lists h in
+    let was = register_was row trees lists h in
     let same = meeting_stays lists was.0 was.1 so in
     let right : is_meeting lists ≡ true = subst (λ m. is_meeting m ≡ true) same so in
     let ordered : x ≡ lists = some_is (checked ∙ checked_is lists so) ∙ same in
-    ap (λ b. guard b >>= λ _. Some (judged_as lists)) right ∙ ap (λ m. Some (judged_as m)) (sym ordered) ∙ ap (λ n. Some (record { rows = n; polls = x.polls })) (sym is)
+    ap (λ b. guard b >>= λ _. Some (judged_as lists)) right ∙ ap (λ m. Some (judged_as m)) (sym ordered)
+
+-- so what is judged of them is
+pub judged_made : (row : MeetingRow) (trees : Trees) (lists x : MeetingLists) → but_votes row trees ≡ Some lists → Some x ≡ meeting_checked lists → (r : Result Judged LoadError) → MatchResult r (λ its. its ≡ judged_as x) (λ fault. fault ≡ Memory)
+    → ReadAgrees any_at_all r (guard (is_meeting lists) >>= λ _. Some (judged_as lists))
+judged_made row trees lists x h checked (Ok its) made = judged_right row trees lists x h checked ∙ ap (λ j. Some j) (sym made)
+judged_made row trees lists x h checked (Err e) made = subst (λ f. ReadErrAgrees any_at_all f (guard (is_meeting lists) >>= λ _. Some (judged_as lists))) (sym made) tt
 
 -- and those that are not are not
 pub judged_wrong : (lists : MeetingLists) → None ≡ meeting_checked lists → (x : Judged) → (guard (is_meeting lists) >>= λ _. Some (judged_as lists)) ≡ Some x → true ≡ false
@@ -103,12 +111,10 @@ judged_wrong lists unchecked x h =
 -- there are none yet
 pub no_votes : (row : MeetingRow) (trees : Trees) (lists : MeetingLists) → but_votes row trees ≡ Some lists → lists.casts ≡ []
 no_votes row trees lists h =
-    let called = bound (called_in row.id trees) _ lists h in
+    let called = bound (called_in row trees) _ lists h in
     let given = bound (given_in row.id trees) _ lists called.2 in
     let polled = bound (polled_in row.id trees) _ lists given.2 in
-    let later = bound (sessions_own called.0.sessions) _ lists polled.2 in
-    let resolutions = bound (resolutions_own called.0.resolutions) _ lists later.2 in
-    ap (λ (x : MeetingLists). x.casts) (sym (some_is resolutions.2))
+    ap (λ (x : MeetingLists). x.casts) (sym (some_is polled.2))
 
 -- with other votes the lists are a meeting's where these could be cast on its polls
 pub with_votes : (lists : MeetingLists) (votes : List CastMark) → is_meeting lists ≡ true → are_casts lists.polls votes ≡ true → is_meeting (record lists { casts = votes }) ≡ true
@@ -137,7 +143,5 @@ votes_lead row trees lists h wrong votes =
       | inr other ↦ other
     ]
 
-pub whole_wrong : (row : MeetingRow) (trees : Trees) (x : MeetingLists) → but_votes row trees ≡ Some x → is_meeting x ≡ false → (y : MeetingLists) → (own_in casts row.id trees >>= λ votes. Some (record x { casts = votes })) ≡ Some y → is_meeting y ≡ false
-whole_wrong row trees x held wrong y h =
-    let votes = bound (own_in casts row.id trees) (λ votes. Some (record x { casts = votes })) y h in
-    ap is_meeting (sym (some_is votes.2)) ∙ votes_lead row trees x held wrong votes.0
+pub whole_wrong : (row : MeetingRow) (votes : List CastMark) (trees : Trees) (x : MeetingLists) → but_votes row trees ≡ Some x → is_meeting x ≡ false → (y : MeetingLists) → Some (record x { casts = votes }) ≡ Some y → is_meeting y ≡ false
+whole_wrong row votes trees x held wrong y h = ap is_meeting (sym (some_is h)) ∙ votes_lead row trees x held wrong votes

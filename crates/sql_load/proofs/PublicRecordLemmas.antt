@@ -1,4 +1,4 @@
--- The public record, from what was told of its parts.
+-- The public record, from the readings of its parts.
 use Rattle.std.proofs.Common.{◌≡◌, ℕ, Bool, true, ◌&&◌, List, [], map, filter, find, slice_get, Option, Some, None, Err, Result, IsTrue, refl, sym, ap, subst, ◌∙◌}
 use Rattle.std.specs.Prelude.{◌==◌, option_map}
 use Rattle.std.specs.Ordering.{is_lt, nat_cmp}
@@ -44,7 +44,7 @@ use Rattle.sql_load.specs.TableLookUps.{HoldsOfStoredOffice, HoldsOrFails}
 use Rattle.sql_load.proofs.FoundRecordLemmas.{cause_returns, first_passing, says, yields_return}
 use Rattle.sql_load.proofs.NamedMeetingLemmas.{IsFoundAs, has_name, list_is, meeting_found, passing, the_same}
 
--- what a whole table holds, as what is told of the office
+-- what a whole table holds, as what is returned of the office
 pub reading_returned : {S X : Type 0} (g : store.Ghosts S) (a b : Held S) (said : Trees → Option X) (all : FlatLists → X) (held : (trees : Trees) (flat : FlatLists) → flat_in trees ≡ Some flat → said trees ≡ Some (all flat))
     (r : Result X LoadError) → IsReading g a b any_at_all r said → (R : OfficeLists → X → Type 0)
     → ((flat : FlatLists) (office : OfficeLists) → AreOf flat office → IsTrue (is_office office) → R office (all flat)) → HoldsOfStoredOffice g a b r R

@@ -1,4 +1,4 @@
--- One telling of the tables after another.
+-- One reading of the stored office after another.
 use Rattle.std.proofs.Common.{◌≡◌, Some, Ok, Err, Result, OnOk, IsTrue, sym, subst}
 use Rattle.std.specs.Prelude.{MatchResult}
 use Rattle.std.proofs.lemmas.Result.{on_ok_weaker}
@@ -13,14 +13,14 @@ use Rattle.sql_load.specs.declared.fault.LoadError.{LoadError}
 use Rattle.sql_load.specs.declared.fault.LoadError.TheVariants.{NoOffice, Store, Memory}
 use Rattle.sql_load.specs.TableLookUps.{HoldsOfStoredOffice, HoldsOrFails}
 
--- what is told is so in another way too
+-- what is returned holds in another form too
 pub returns_weaker : {X : Type 0} (P Q : X → Type 0) (r : Result X LoadError) → ((x : X) → P x → Q x) → HoldsOrFails P r → HoldsOrFails Q r
 returns_weaker P Q (Ok x) next h = next x h
 returns_weaker P Q (Err NoOffice) next h = h
 returns_weaker P Q (Err Store) next h = h
 returns_weaker P Q (Err Memory) next h = h
 
--- a fault says the same, whatever was to be told
+-- a fault says the same, whatever was to be returned
 pub returns_fault : {X Y : Type 0} (P : X → Type 0) (Q : Y → Type 0) (e : LoadError) → HoldsOrFails {X = X} P (Err e) → HoldsOrFails {X = Y} Q (Err e)
 returns_fault P Q NoOffice h = h
 returns_fault P Q Store h = h
@@ -36,7 +36,7 @@ always (Ok x) w = w
 always (Err e) w = tt
 
 module _ {S : Type 0} (g : store.Ghosts S) where
-  -- what was told first is known of what is told then
+  -- what was returned first is known of what is returned then
   pub returned_then : {X Y : Type 0} (a b c : Held S) (x : X) (r : Result Y LoadError) (P : OfficeLists → X → Type 0) (R : OfficeLists → Y → Type 0)
       → HoldsOfStoredOffice g a b (Ok x) P → HoldsOfStoredOffice g b c r (λ office y. P office x → R office y) → HoldsOfStoredOffice g a c r R
   returned_then a b c x r P R one two = record {
@@ -52,7 +52,7 @@ module _ {S : Type 0} (g : store.Ghosts S) where
     changes = changes_then g a b c one.same one.changes two.changes;
   }
 
-  -- what was told first stays known
+  -- what was returned first stays known
   pub holds_both : {X Y : Type 0} (a b c : Held S) (x : X) (y : Y) (P : OfficeLists → X → Type 0) (Q : OfficeLists → Y → Type 0)
       → HoldsOfStoredOffice g a b (Ok x) P → HoldsOfStoredOffice g b c (Ok y) Q → HoldsOfStoredOffice g a c (Ok y) (λ office z. P office x × Q office z)
   holds_both a b c x y P Q one two = returned_then a b c x (Ok y) P (λ office z. P office x × Q office z) one (record {
@@ -61,7 +61,7 @@ module _ {S : Type 0} (g : store.Ghosts S) where
     changes = two.changes;
   })
 
-  -- and a telling after it may fail
+  -- and a reading after it may fail
   pub holds_after : {X Y : Type 0} (a b c : Held S) (x : X) (r : Result Y LoadError) (P : OfficeLists → X → Type 0) (Q : OfficeLists → Y → Type 0)
       → HoldsOfStoredOffice g a b (Ok x) P → HoldsOfStoredOffice g b c r Q → HoldsOfStoredOffice g a c r Q
   holds_after a b c x r P Q one two = returned_then a b c x r P Q one (record {
@@ -70,7 +70,7 @@ module _ {S : Type 0} (g : store.Ghosts S) where
     changes = two.changes;
   })
 
-  -- what is told is so in another way too, of an office
+  -- what is returned holds in another form too, of an office
   pub returned_so : {X : Type 0} (a b : Held S) (r : Result X LoadError) (P R : OfficeLists → X → Type 0) → ((office : OfficeLists) → IsTrue (is_office office) → (x : X) → P office x → R office x)
       → HoldsOfStoredOffice g a b r P → HoldsOfStoredOffice g a b r R
   returned_so a b r P R next one = record {
@@ -80,7 +80,7 @@ module _ {S : Type 0} (g : store.Ghosts S) where
   }
 
   module _ {X Y : Type 0} (a b : Held S) (P : OfficeLists → X → Type 0) (R : OfficeLists → Y → Type 0) where
-    -- where a telling fails, the whole does
+    -- where a reading fails, the whole does
     pub holds_stop : (e : LoadError) (r : Result Y LoadError) → r ≡ Err e → HoldsOfStoredOffice g a b (Err e) P → HoldsOfStoredOffice g a b r R
     holds_stop e r is one = subst (λ (q : Result Y LoadError). HoldsOfStoredOffice g a b q R) (sym is) (record {
       holds = λ read office holds preserved. returns_fault (P office) (R office) e (one.holds read office holds preserved);
@@ -88,7 +88,7 @@ module _ {S : Type 0} (g : store.Ghosts S) where
       changes = one.changes;
     })
 
-    -- what is made of what was told last
+    -- what is made of what was returned last
     pub holds_so : (x : X) (r : Result Y LoadError) → HoldsOfStoredOffice g a b (Ok x) P → ((office : OfficeLists) → IsTrue (is_office office) → P office x → HoldsOrFails (R office) r) → HoldsOfStoredOffice g a b r R
     holds_so x r one next = record {
       holds = λ read office holds preserved. next office preserved (one.holds read office holds preserved);

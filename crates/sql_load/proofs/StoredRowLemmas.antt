@@ -26,9 +26,9 @@ use Rattle.sql_schema.specs.Statements.{TableOf, columns_of}
 use Rattle.sql_queries.proofs.CountQueries.{as_many}
 use Rattle.sql_model.specs.OfficeRecords.{number_before, numbered_from}
 use Rattle.sql_model.proofs.FlatChanges.{some_is}
-use Rattle.sql_load.specs.OwnLists.{resolutions_own, sessions_own}
+use Rattle.sql_load.specs.declared.meeting_lists.Called.{Called}
 use Rattle.sql_load.specs.Judging.{same_meeting_row}
-use Rattle.sql_load.specs.MeetingReading.{but_votes, called_in, given_in, is_of, meeting_in_row, own_in, polled_in}
+use Rattle.sql_load.specs.MeetingReading.{but_votes, called_in, given_in, is_of, meeting_in_row, own_in, polled_in, polls_in, register_in, resolutions_in, sessions_in}
 use Rattle.sql_load.specs.MeetingRecords.{without_meeting}
 use Rattle.sql_load.specs.StoredRows.{rows_but_votes, rows_in, stored_rows}
 use Rattle.sql_load.proofs.CountedRecordLemmas.{numbered_length}
@@ -75,6 +75,9 @@ own_length it m trees xs = shown_length it (filter (is_of it m.id) (trees it.num
 numbered_many : {A : Type 0} (n : ℕ) (rows : List (Numbered A)) (xs : List A) → numbered_from n (sort_by number_before rows) ≡ Some xs → length xs ≡ length rows
 numbered_many n rows xs h = numbered_length n (sort_by number_before rows) xs h ∙ length_permutation rows (sort_by number_before rows) (IsPermutation-sort_by number_before rows)
 
+sorted_many : {A : Type 0} (before : A → A → Bool) (rows xs : List A) → Some (sort_by before rows) ≡ Some xs → length xs ≡ length rows
+sorted_many before rows xs h = ap length (sym (some_is h)) ∙ length_permutation rows (sort_by before rows) (IsPermutation-sort_by before rows)
+
 -- how many rows name a meeting, but those of votes
 abbrev pub its_all : MeetingRow → Trees → ℕ
 its_all m trees =
@@ -89,35 +92,36 @@ nine_same a b c d e f g h i = rw (a, b, c, d, e, f, g, h, i) refl
 -- the lists of a meeting are as many rows
 pub lists_rows : (trees : Trees) (m : MeetingRow) (lists : MeetingLists) → but_votes m trees ≡ Some lists → rows_but_votes lists ≡ its_all m trees
 lists_rows trees m lists h =
-    let called = bound (called_in m.id trees) _ lists h in
+    let called = bound (called_in m trees) _ lists h in
     let given = bound (given_in m.id trees) _ lists called.2 in
     let polled = bound (polled_in m.id trees) _ lists given.2 in
-    let later = bound (sessions_own called.0.sessions) _ lists polled.2 in
-    let numbered = bound (resolutions_own called.0.resolutions) _ lists later.2 in
-    let is = sym (some_is numbered.2) in
-    let sessions = bound (own_in table.sessions m.id trees) _ called.0 called.1 in
-    let resolutions = bound (own_in table.resolutions m.id trees) _ called.0 sessions.2 in
-    let register = bound (own_in table.register m.id trees) _ called.0 resolutions.2 in
+    let later = bound (sessions_in m.id trees) _ called.0 called.1 in
+    let resolutions = bound (resolutions_in m.id trees) _ called.0 later.2 in
+    let register = bound (register_in m.id trees) _ called.0 resolutions.2 in
     let called_is = sym (some_is register.2) in
+    let sessions = bound (own_in table.sessions m.id trees) _ later.0 later.1 in
+    let numbered = bound (own_in table.resolutions m.id trees) _ resolutions.0 resolutions.1 in
+    let rows = bound (own_in table.register m.id trees) _ register.0 register.1 in
     let appointments = bound (own_in table.appointments m.id trees) _ given.0 given.1 in
     let endings = bound (own_in table.endings m.id trees) _ given.0 appointments.2 in
     let authorities = bound (own_in table.authorities m.id trees) _ given.0 endings.2 in
     let given_is = sym (some_is authorities.2) in
     let presences = bound (own_in table.presences m.id trees) _ polled.0 polled.1 in
     let demands = bound (own_in table.demands m.id trees) _ polled.0 presences.2 in
-    let polls = bound (own_in table.polls m.id trees) _ polled.0 demands.2 in
+    let polls = bound (polls_in m.id trees) _ polled.0 demands.2 in
     let polled_is = sym (some_is polls.2) in
-    ap rows_but_votes is
+    let ordered = bound (own_in table.polls m.id trees) _ polls.0 polls.1 in
+    ap rows_but_votes (sym (some_is polled.2))
     ∙ nine_same
-    (numbered_many 2 called.0.sessions later.0 later.1 ∙ ap (λ c. length c.sessions) called_is ∙ own_length table.sessions m trees sessions.0 sessions.1)
-    (numbered_many 1 called.0.resolutions numbered.0 numbered.1 ∙ ap (λ c. length c.resolutions) called_is ∙ own_length table.resolutions m trees resolutions.0 resolutions.1)
-    (length_permutation called.0.register (sort_by member_before called.0.register) (IsPermutation-sort_by member_before called.0.register) ∙ ap (λ c. length c.register) called_is ∙ own_length table.register m trees register.0 register.1)
+    (ap (λ (c : Called). length c.meeting.later) called_is ∙ numbered_many 2 sessions.0 later.0 sessions.2 ∙ own_length table.sessions m trees sessions.0 sessions.1)
+    (ap (λ (c : Called). length c.meeting.resolutions) called_is ∙ numbered_many 1 numbered.0 resolutions.0 numbered.2 ∙ own_length table.resolutions m trees numbered.0 numbered.1)
+    (ap (λ (c : Called). length c.register) called_is ∙ sorted_many member_before rows.0 register.0 rows.2 ∙ own_length table.register m trees rows.0 rows.1)
     (ap (λ c. length c.appointments) given_is ∙ own_length table.appointments m trees appointments.0 appointments.1)
     (ap (λ c. length c.endings) given_is ∙ own_length table.endings m trees endings.0 endings.1)
     (ap (λ c. length c.authorities) given_is ∙ own_length table.authorities m trees authorities.0 authorities.1)
     (ap (λ c. length c.presences) polled_is ∙ own_length table.presences m trees presences.0 presences.1)
     (ap (λ c. length c.demands) polled_is ∙ own_length table.demands m trees demands.0 demands.1)
-    (length_permutation polled.0.polls (sort_by poll_before polled.0.polls) (IsPermutation-sort_by poll_before polled.0.polls) ∙ ap (λ c. length c.polls) polled_is ∙ own_length table.polls m trees polls.0 polls.1)
+    (ap (λ c. length c.polls) polled_is ∙ sorted_many poll_before ordered.0 polls.0 ordered.2 ∙ own_length table.polls m trees ordered.0 ordered.1)
 
 -- ---- of all meetings
 

@@ -10,6 +10,7 @@ use Rattle.vocabulary.specs.OptionSteps.{◌>>=◌, guard}
 use Rattle.desk_words.specs.Office.{is_meeting, is_office}
 use Rattle.desk_words.specs.SortedLists.{is_day_list, is_key_list}
 use Rattle.desk_words.specs.declared.limits.TheConstants.{MOST_MEETINGS}
+use Rattle.desk_words.specs.declared.office.MeetingLists.{MeetingLists}
 use Rattle.desk_words.specs.declared.office.OfficeLists.{OfficeLists}
 use Rattle.sql_rows.specs.declared.stored_records.MeetingRow.{MeetingRow}
 use Rattle.sql_schema.specs.Contents as table
@@ -49,12 +50,16 @@ rows_judged trees = do
   right ← guard (are_meeting_rows rows)
   Some rows
 
--- the lists of a meeting are such but its votes; how many rows they are, and its polls
+-- what is judged of a meeting's lists but its votes: how many rows they are, and the polls
+abbrev pub judged_as : MeetingLists → Judged
+judged_as lists = record { rows = rows_but_votes lists; polls = lists.polls }
+
+-- the lists of a meeting are such but its votes
 abbrev pub judged_but_votes : MeetingRow → Trees → Option Judged
 judged_but_votes row trees = do
   lists ← but_votes row trees
   right ← guard (is_meeting lists)
-  Some (record { rows = rows_but_votes lists; polls = lists.polls })
+  Some (judged_as lists)
 
 -- and the votes on each of its polls are such; how many rows they all are
 abbrev pub judged_in : MeetingRow → Trees → Option ℕ

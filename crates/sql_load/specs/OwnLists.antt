@@ -1,32 +1,12 @@
--- The records of one meeting, and the lists that they are.
+-- Records in the order of their numbers.
 use Rattle.std.specs.Prelude.{◌==◌, ℕ, suc, Bool, true, ◌&&◌, List, [], ◌∷◌, Option}
-use Rattle.std.specs.Prelude.{Some, length, nat_le}
+use Rattle.std.specs.Prelude.{length, nat_le}
 use Rattle.seq.specs.Sorting.{sort_by}
-use Rattle.desk_words.specs.Office.{poll_before}
-use Rattle.desk_words.specs.Registers.{member_before}
 use Rattle.desk_words.specs.declared.limits.TheConstants.{MOST_SESSIONS}
-use Rattle.desk_words.specs.declared.office.MeetingLists.{MeetingLists}
 use Rattle.desk_words.specs.declared.records.Resolution.{Resolution}
 use Rattle.desk_words.specs.declared.records.Session.{Session}
-use Rattle.vocabulary.specs.OptionSteps.{◌>>=◌}
-use Rattle.sql_rows.specs.declared.stored_records.MeetingRow.{MeetingRow}
 use Rattle.sql_rows.specs.declared.stored_records.Numbered.{Numbered}
-use Rattle.sql_model.specs.OfficeRecords.{number_before, numbered_from, whole_meeting}
-use Rattle.sql_load.specs.declared.own_records.OwnRecords.{OwnRecords}
-
--- the lists of a meeting with these further sessions and resolutions
-abbrev pub lists_own_with : OwnRecords → List Session → List Resolution → MeetingLists
-lists_own_with own later resolutions = record {
-  meeting = whole_meeting own.meeting later resolutions;
-  register = sort_by member_before own.register;
-  appointments = own.appointments;
-  endings = own.endings;
-  authorities = own.authorities;
-  presences = own.presences;
-  demands = own.demands;
-  polls = sort_by poll_before own.polls;
-  casts = own.casts;
-}
+use Rattle.sql_model.specs.OfficeRecords.{number_before, numbered_from}
 
 -- the things in the order of their numbers, which go on from that one
 abbrev pub numbered_own : {A : Type 0} → ℕ → List (Numbered A) → Option (List A)
@@ -56,11 +36,3 @@ at_most n things = nat_le (length things) n
 -- with the first session they are at most `MOST_SESSIONS`
 abbrev pub are_few : List Session → Bool
 are_few later = nat_le (suc (length later)) MOST_SESSIONS
-
--- the lists of a meeting, or nothing where its further sessions are not numbered 2, 3, .. or its
--- resolutions not 1, 2, ..
-abbrev pub lists_own : OwnRecords → Option MeetingLists
-lists_own own = do
-  later ← sessions_own own.sessions
-  resolutions ← resolutions_own own.resolutions
-  Some (lists_own_with own later resolutions)

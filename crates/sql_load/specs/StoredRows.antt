@@ -11,26 +11,13 @@ use Rattle.sql_schema.specs.Statements.{TableOf}
 abbrev pub rows_in : {A : Type 0} → TableOf A → Trees → ℕ
 rows_in table trees = length (trees table.number)
 
--- the rows of what meetings are called with
-abbrev pub called_rows : Trees → ℕ
-called_rows trees =
-    rows_in table.sessions trees + rows_in table.resolutions trees + rows_in table.register trees
-
--- so many, and the rows of what members give
-abbrev pub with_given : ℕ → Trees → ℕ
-with_given count trees =
-    count + rows_in table.appointments trees + rows_in table.endings trees
-    + rows_in table.authorities trees
-
--- so many, and the rows of who is present, what is demanded, and the polls with their votes
-abbrev pub with_polled : ℕ → Trees → ℕ
-with_polled count trees =
-    count + rows_in table.presences trees + rows_in table.demands trees
-    + rows_in table.polls trees + rows_in table.casts trees
-
 -- the rows of all tables whose rows name a meeting
 abbrev pub stored_rows : Trees → ℕ
-stored_rows trees = with_polled (with_given (called_rows trees) trees) trees
+stored_rows trees =
+    rows_in table.sessions trees + rows_in table.resolutions trees + rows_in table.register trees
+    + rows_in table.appointments trees + rows_in table.endings trees
+    + rows_in table.authorities trees + rows_in table.presences trees
+    + rows_in table.demands trees + rows_in table.polls trees + rows_in table.casts trees
 
 -- the rows that a meeting's lists are, but those of its votes
 abbrev pub rows_but_votes : MeetingLists → ℕ

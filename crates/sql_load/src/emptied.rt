@@ -1,16 +1,15 @@
 //! The tables of version 1 that version 2 leaves empty.
 ghost use Rattle.std.specs.Prelude.{◌≡◌, ◌==◌, length};
+ghost use Rattle.sql_load.specs.LoadResults.{ReadAgrees, any_at_all};
 ghost use Rattle.sql_load.specs.WholeReading.{IsReading};
 ghost use Rattle.sql_model.specs.OfficeRecords.{are_left_empty, has_no_row};
-ghost use Rattle.sql_schema.specs.Contents as contents;
 ghost use Rattle.vocabulary.specs.OptionSteps.{guard};
-ghost use Rattle.sql_load.specs.LoadResults.{ReadAgrees, any_at_all};
 
 use crate::fault::LoadError;
 use sql_meeting_tables::demands_before_sessions::DemandsBeforeSessions;
 use sql_meeting_tables::polls_before_sessions::PollsBeforeSessions;
 use sql_meeting_tables::presences_before_sessions::PresencesBeforeSessions;
-use sql_stored::all;
+use sql_stored::{ListedTable, all};
 use sqlite::{Alter, Row, Transaction};
 
 /// Takes rows where there are none. The fault is `NoOffice` only where there is one.
@@ -23,31 +22,13 @@ fn nothing(rows: Vec<Row>) -> Result<(), LoadError>
     Ok(())
 }
 
-/// Reads that the presences of version 1 are none. The fault is `NoOffice` only where there is one.
-fn no_presences<S: Alter>(tx: &mut Transaction<'_, S>) -> Result<(), LoadError>
+/// Reads that a table has no row. The fault is `NoOffice` only where it has one.
+fn no_rows<T: ListedTable, S: Alter>(tx: &mut Transaction<'_, S>) -> Result<(), LoadError>
     ensures same_reference { tx.new.conn.ghost_name ≡ tx.old.conn.ghost_name }
     ensures read { IsReading S.Store tx.old.conn.now tx.new.conn.now any_at_all result
-        (λ trees. guard (has_no_row contents.presences_before_sessions trees)) }
+        (λ trees. guard (has_no_row T.table trees)) }
 {
-    nothing(all::<PresencesBeforeSessions, S>(tx)?)
-}
-
-/// Reads that the demands of version 1 are none. The fault is `NoOffice` only where there is one.
-fn no_demands<S: Alter>(tx: &mut Transaction<'_, S>) -> Result<(), LoadError>
-    ensures same_reference { tx.new.conn.ghost_name ≡ tx.old.conn.ghost_name }
-    ensures read { IsReading S.Store tx.old.conn.now tx.new.conn.now any_at_all result
-        (λ trees. guard (has_no_row contents.demands_before_sessions trees)) }
-{
-    nothing(all::<DemandsBeforeSessions, S>(tx)?)
-}
-
-/// Reads that the polls of version 1 are none. The fault is `NoOffice` only where there is one.
-fn no_polls<S: Alter>(tx: &mut Transaction<'_, S>) -> Result<(), LoadError>
-    ensures same_reference { tx.new.conn.ghost_name ≡ tx.old.conn.ghost_name }
-    ensures read { IsReading S.Store tx.old.conn.now tx.new.conn.now any_at_all result
-        (λ trees. guard (has_no_row contents.polls_before_sessions trees)) }
-{
-    nothing(all::<PollsBeforeSessions, S>(tx)?)
+    nothing(all::<T, S>(tx)?)
 }
 
 /// Reads that the tables that version 2 leaves empty have no row. The fault is `NoOffice` only where
@@ -57,7 +38,7 @@ pub(crate) fn read_left<S: Alter>(tx: &mut Transaction<'_, S>) -> Result<(), Loa
     ensures read { IsReading S.Store tx.old.conn.now tx.new.conn.now any_at_all result
         (λ trees. guard (are_left_empty trees)) }
 {
-    no_presences(tx)?;
-    no_demands(tx)?;
-    no_polls(tx)
+    no_rows::<PresencesBeforeSessions, S>(tx)?;
+    no_rows::<DemandsBeforeSessions, S>(tx)?;
+    no_rows::<PollsBeforeSessions, S>(tx)
 }

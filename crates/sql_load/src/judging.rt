@@ -7,7 +7,7 @@ ghost use Rattle.vocabulary.specs.OptionSteps.{guard};
 ghost use Rattle.seq.specs.Ordered.{differ_by};
 ghost use Rattle.sql_load.specs.LoadResults.{any_at_all};
 ghost use Rattle.sql_load.specs.declared.fault.LoadError.TheVariants.{Memory};
-ghost use Rattle.sql_load.specs.Judging.{IsJudged, are_meeting_rows, judged_but_votes, judged_days};
+ghost use Rattle.sql_load.specs.Judging.{IsJudged, are_meeting_rows, judged_as, judged_but_votes, judged_days};
 ghost use Rattle.sql_load.specs.Judging.{judged_in, judged_keys, judged_lists, judged_meetings, judged_office};
 ghost use Rattle.sql_load.specs.Judging.{rows_judged, same_meeting_row};
 ghost use Rattle.sql_load.specs.StoredRows.{rows_but_votes, stored_rows};
@@ -121,6 +121,17 @@ struct Judged {
     polls: Listing<Poll>,
 }
 
+/// What is judged of lists that are a meeting's. The fault is `Memory`.
+fn judged_as(lists: MeetingLists) -> Result<Judged, LoadError>
+    ensures { MatchResult result (λ its. its ≡ judged_as lists) (λ fault. fault ≡ Memory) }
+{
+    let rows = rows_but_votes(&lists)?;
+    Ok(Judged {
+        rows,
+        polls: lists.polls,
+    })
+}
+
 /// Judges the lists of a meeting but its votes, and gives how many rows they are, and the polls. The
 /// fault is `NoOffice` only where they are none.
 fn judge_but_votes<S: Alter>(
@@ -136,11 +147,7 @@ fn judge_but_votes<S: Alter>(
     let Some(checked) = meeting_checked(alloc, lists) else {
         return Err(LoadError::NoOffice);
     };
-    let rows = rows_but_votes(&checked)?;
-    Ok(Judged {
-        rows,
-        polls: checked.polls,
-    })
+    judged_as(checked)
 }
 
 /// Judges a meeting, the votes on one of its polls after those on another, and gives how many rows it

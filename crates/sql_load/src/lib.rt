@@ -9,7 +9,6 @@ mod judging;
 mod meeting_lists;
 mod office;
 mod ordered_lists;
-mod own_records;
 mod own_rows;
 mod public;
 pub mod query_records;

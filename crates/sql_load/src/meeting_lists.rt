@@ -1,19 +1,25 @@
 //! The lists of a meeting, read by its name.
 ghost use Rattle.std.specs.Prelude.{◌≡◌};
 ghost use Rattle.std.specs.List.{list_all};
-ghost use Rattle.desk_words.specs.Office.{is_meeting};
+ghost use Rattle.seq.specs.Ordered.{ascends_by};
+ghost use Rattle.desk_words.specs.Office.{are_rows, is_meeting, poll_before};
+ghost use Rattle.desk_words.specs.SortedLists.{are_resolutions};
 ghost use Rattle.sql_load.specs.LoadResults.{any_at_all};
-ghost use Rattle.sql_load.specs.MeetingReading.{but_votes, called_in, given_in, lists_in, meetings_in};
-ghost use Rattle.sql_load.specs.MeetingReading.{own_of, polled_in};
+ghost use Rattle.sql_load.specs.MeetingReading.{are_called, are_polled, but_votes, called_in, given_in};
+ghost use Rattle.sql_load.specs.MeetingReading.{lists_in, lists_of_parts, meetings_in, polled_in, polls_in};
+ghost use Rattle.sql_load.specs.MeetingReading.{register_in, resolutions_in, sessions_in};
+ghost use Rattle.sql_load.specs.OwnLists.{are_few};
 ghost use Rattle.sql_load.specs.WholeReading.{IsReading};
 
 use crate::fault::LoadError;
-use crate::own_records::OwnRecords;
+use crate::ordered_lists::{
+    poll_list, register_rows, resolution_list, session_list, whole_meeting,
+};
 use crate::own_rows::{own, own_filed};
 use crate::table::listing;
 use desk_words::{
-    Appointment, Authority, CastMark, DemandMark, Ending, Filed, Listing, MeetingId, MeetingLists,
-    Poll, PresenceMark, RegisterRow, Resolution, Session,
+    Appointment, Authority, CastMark, DemandMark, Ending, Filed, Listing, Meeting, MeetingId,
+    MeetingLists, Poll, PresenceMark, RegisterRow, Resolution, Resolutions, Session,
 };
 use sql_desk_tables::meetings::Meetings;
 use sql_queries::{
@@ -24,14 +30,13 @@ use sql_rows::{MeetingRow, Numbered};
 use sqlite::{Alter, Transaction};
 use std::alloc::Global;
 
-// A function that owns many lists over readings that may fail is dear to prove, so the records of a
-// meeting are read in three parts.
+// A function that owns many lists over readings that may fail is dear to prove, so a meeting is read in
+// three parts, each list put in order as it is read.
 
-/// What a meeting is called with: its further sessions, its resolutions and its register.
+/// What a meeting is called with: the meeting itself, and its register.
 #[derive(Drop)]
 struct Called {
-    sessions: Listing<Numbered<Session>>,
-    resolutions: Listing<Numbered<Resolution>>,
+    meeting: Meeting,
     register: Listing<RegisterRow>,
 }
 
@@ -51,21 +56,79 @@ struct Polled {
     polls: Listing<Poll>,
 }
 
-fn read_called<S: Alter>(
+/// The further sessions of a meeting. The fault is `NoOffice` only where a row is none, or they are
+/// too many.
+fn read_sessions<S: Alter>(
     tx: &mut Transaction<'_, S>,
     alloc: Global,
     meeting: MeetingId,
+) -> Result<Listing<Session>, LoadError>
+    ensures same_reference { tx.new.conn.ghost_name ≡ tx.old.conn.ghost_name }
+    ensures read { IsReading S.Store tx.old.conn.now tx.new.conn.now are_few result
+        (sessions_in meeting) }
+{
+    let rows = own::<sessions::OfMeeting, Numbered<Session>, S>(tx, alloc, meeting)?;
+    session_list(alloc, rows)
+}
+
+/// The resolutions of a meeting. The fault is `NoOffice` only where a row is none, or there are none or
+/// too many.
+fn read_resolutions<S: Alter>(
+    tx: &mut Transaction<'_, S>,
+    alloc: Global,
+    meeting: MeetingId,
+) -> Result<Resolutions, LoadError>
+    ensures same_reference { tx.new.conn.ghost_name ≡ tx.old.conn.ghost_name }
+    ensures read { IsReading S.Store tx.old.conn.now tx.new.conn.now are_resolutions result
+        (resolutions_in meeting) }
+{
+    let rows = own::<resolutions::OfMeeting, Numbered<Resolution>, S>(tx, alloc, meeting)?;
+    resolution_list(alloc, rows)
+}
+
+/// The register of a meeting. The fault is `NoOffice` only where its rows are none.
+fn read_register<S: Alter>(
+    tx: &mut Transaction<'_, S>,
+    alloc: Global,
+    meeting: MeetingId,
+) -> Result<Listing<RegisterRow>, LoadError>
+    ensures same_reference { tx.new.conn.ghost_name ≡ tx.old.conn.ghost_name }
+    ensures read { IsReading S.Store tx.old.conn.now tx.new.conn.now are_rows result
+        (register_in meeting) }
+{
+    let rows = own::<register::OfMeeting, RegisterRow, S>(tx, alloc, meeting)?;
+    register_rows(rows)
+}
+
+/// The polls of a meeting. The fault is `NoOffice` only where a row is none, or two are on one
+/// resolution.
+fn read_polls<S: Alter>(
+    tx: &mut Transaction<'_, S>,
+    alloc: Global,
+    meeting: MeetingId,
+) -> Result<Listing<Poll>, LoadError>
+    ensures same_reference { tx.new.conn.ghost_name ≡ tx.old.conn.ghost_name }
+    ensures read { IsReading S.Store tx.old.conn.now tx.new.conn.now (ascends_by poll_before) result
+        (polls_in meeting) }
+{
+    let rows = own::<polls::OfMeeting, Poll, S>(tx, alloc, meeting)?;
+    poll_list(rows)
+}
+
+fn read_called<S: Alter>(
+    tx: &mut Transaction<'_, S>,
+    alloc: Global,
+    row: MeetingRow,
 ) -> Result<Called, LoadError>
     ensures same_reference { tx.new.conn.ghost_name ≡ tx.old.conn.ghost_name }
-    ensures read { IsReading S.Store tx.old.conn.now tx.new.conn.now any_at_all result
-        (called_in meeting) }
+    ensures read { IsReading S.Store tx.old.conn.now tx.new.conn.now are_called result
+        (called_in row) }
 {
-    let sessions = own::<sessions::OfMeeting, Numbered<Session>, S>(tx, alloc, meeting)?;
-    let resolutions = own::<resolutions::OfMeeting, Numbered<Resolution>, S>(tx, alloc, meeting)?;
-    let register = own::<register::OfMeeting, RegisterRow, S>(tx, alloc, meeting)?;
+    let later = read_sessions(tx, alloc, row.id)?;
+    let resolutions = read_resolutions(tx, alloc, row.id)?;
+    let register = read_register(tx, alloc, row.id)?;
     Ok(Called {
-        sessions,
-        resolutions,
+        meeting: whole_meeting(row, later, resolutions),
         register,
     })
 }
@@ -95,12 +158,12 @@ fn read_polled<S: Alter>(
     meeting: MeetingId,
 ) -> Result<Polled, LoadError>
     ensures same_reference { tx.new.conn.ghost_name ≡ tx.old.conn.ghost_name }
-    ensures read { IsReading S.Store tx.old.conn.now tx.new.conn.now any_at_all result
+    ensures read { IsReading S.Store tx.old.conn.now tx.new.conn.now are_polled result
         (polled_in meeting) }
 {
     let presences = own_filed::<presences::OfMeeting, PresenceMark, S>(tx, alloc, meeting)?;
     let demands = own_filed::<demands::OfMeeting, DemandMark, S>(tx, alloc, meeting)?;
-    let polls = own::<polls::OfMeeting, Poll, S>(tx, alloc, meeting)?;
+    let polls = read_polls(tx, alloc, meeting)?;
     Ok(Polled {
         presences,
         demands,
@@ -108,20 +171,12 @@ fn read_polled<S: Alter>(
     })
 }
 
-/// A meeting with the records of the three parts, and no votes.
-fn own_of(
-    alloc: Global,
-    meeting: MeetingRow,
-    called: Called,
-    given: Given,
-    polled: Polled,
-) -> OwnRecords
-    ensures { result ≡ own_of meeting called given polled }
+/// The lists of a meeting of the three parts, and no votes.
+fn lists_of_parts(alloc: Global, called: Called, given: Given, polled: Polled) -> MeetingLists
+    ensures { result ≡ lists_of_parts called given polled }
 {
-    OwnRecords {
-        meeting,
-        sessions: called.sessions,
-        resolutions: called.resolutions,
+    MeetingLists {
+        meeting: called.meeting,
         register: called.register,
         appointments: given.appointments,
         endings: given.endings,
@@ -144,10 +199,11 @@ pub(crate) fn read_but_votes<S: Alter>(
     ensures read { IsReading S.Store tx.old.conn.now tx.new.conn.now is_meeting result
         (but_votes row) }
 {
-    let called = read_called(tx, alloc, row.id)?;
-    let given = read_given(tx, alloc, row.id)?;
-    let polled = read_polled(tx, alloc, row.id)?;
-    own_of(alloc, row, called, given, polled).into_lists(alloc)
+    let meeting = row.id;
+    let called = read_called(tx, alloc, row)?;
+    let given = read_given(tx, alloc, meeting)?;
+    let polled = read_polled(tx, alloc, meeting)?;
+    Ok(lists_of_parts(alloc, called, given, polled))
 }
 
 /// The lists of a meeting with these votes.
@@ -171,9 +227,8 @@ fn read_lists<S: Alter>(
     ensures read { IsReading S.Store tx.old.conn.now tx.new.conn.now is_meeting result
         (lists_in row) }
 {
-    let meeting = row.id;
+    let votes = own_filed::<casts::OfMeeting, CastMark, S>(tx, alloc, row.id)?;
     let lists = read_but_votes(tx, alloc, row)?;
-    let votes = own_filed::<casts::OfMeeting, CastMark, S>(tx, alloc, meeting)?;
     Ok(with_votes(lists, votes))
 }
 

@@ -4,22 +4,21 @@ ghost use Rattle.seq.specs.Ordered.{ascends_by};
 ghost use Rattle.seq.specs.Sorting.{sort_by};
 ghost use Rattle.desk_words.specs.SortedLists.{are_resolutions, caller_before, day_before, is_day_list};
 ghost use Rattle.desk_words.specs.SortedLists.{is_key_list};
-ghost use Rattle.desk_words.specs.Office.{is_meeting, poll_before, are_rows};
+ghost use Rattle.desk_words.specs.Office.{poll_before, are_rows};
 ghost use Rattle.desk_words.specs.Registers.{member_before};
-ghost use Rattle.sql_model.specs.OfficeRecords.{number_before};
-ghost use Rattle.sql_load.specs.OwnLists.{are_few, at_most, unnumbered, lists_own, number_from};
+ghost use Rattle.sql_model.specs.OfficeRecords.{number_before, whole_meeting};
+ghost use Rattle.sql_load.specs.OwnLists.{are_few, at_most, unnumbered, number_from};
 ghost use Rattle.sql_load.specs.OwnLists.{numbered_own, resolutions_own, sessions_own};
 ghost use Rattle.sql_load.specs.LoadResults.{ReadAgrees};
 
 use crate::fault::LoadError;
-use crate::own_records::OwnRecords;
 use desk_words::limits::{MOST_RESOLUTIONS, MOST_SESSIONS};
 use desk_words::{
-    Day, DayList, KeyRow, KeyRows, Listing, Meeting, MeetingLists, Poll, Register, RegisterRow,
-    Resolution, Resolutions, Session,
+    Day, DayList, KeyRow, KeyRows, Listing, Meeting, Poll, Register, RegisterRow, Resolution,
+    Resolutions, Session,
 };
 use seq::{ascend, into_order};
-use sql_rows::Numbered;
+use sql_rows::{MeetingRow, Numbered};
 use std::alloc::{AllocError, Global};
 
 /// The keys in the order of callers.
@@ -173,37 +172,26 @@ pub(crate) fn resolution_list(
     }
 }
 
-impl OwnRecords {
-    /// The lists of the meeting. The fault is `NoOffice` only where its records are no
-    /// meeting's lists.
-    pub fn into_lists(self, alloc: Global) -> Result<MeetingLists, LoadError>
-        ensures { ReadAgrees is_meeting result (lists_own self) }
-    {
-        let row = self.meeting;
-        let meeting = Meeting {
-            id: row.id,
-            company: row.company,
-            kind: row.kind,
-            given: row.given,
-            first: Session {
-                appointed: row.appointed,
-                opened: row.opened,
-            },
-            later: session_list(alloc, self.sessions)?,
-            record_moment: row.record_moment,
-            resolutions: resolution_list(alloc, self.resolutions)?,
-            loaded: row.loaded,
-        };
-        Ok(MeetingLists {
-            meeting,
-            register: register_rows(self.register)?,
-            appointments: self.appointments,
-            endings: self.endings,
-            authorities: self.authorities,
-            presences: self.presences,
-            demands: self.demands,
-            polls: poll_list(self.polls)?,
-            casts: self.casts,
-        })
+/// A meeting, with its further sessions and its resolutions.
+pub(crate) fn whole_meeting(
+    row: MeetingRow,
+    later: Listing<Session>,
+    resolutions: Resolutions,
+) -> Meeting
+    ensures { result ≡ whole_meeting row later resolutions }
+{
+    Meeting {
+        id: row.id,
+        company: row.company,
+        kind: row.kind,
+        given: row.given,
+        first: Session {
+            appointed: row.appointed,
+            opened: row.opened,
+        },
+        later,
+        record_moment: row.record_moment,
+        resolutions,
+        loaded: row.loaded,
     }
 }

@@ -1,6 +1,5 @@
 //! What is public of a meeting, read from the tables by its name.
 ghost use Rattle.std.specs.Prelude.{◌≡◌, Some, is_some, length, option_map};
-ghost use Rattle.sql_model.specs.OfficeRecords.{whole_meeting};
 ghost use Rattle.desk_words.specs.declared.office.MeetingLists.{MeetingLists};
 ghost use Rattle.party_views.specs.PublicRead.{counted, counted_up_to, with_unread};
 ghost use Rattle.party_views.specs.RowsRead.{polls_on};
@@ -9,7 +8,7 @@ ghost use Rattle.sql_load.specs.MeetingRecords.{AreOnItsResolutions, MayHave, la
 ghost use Rattle.sql_load.specs.TableLookUps.{HoldsOfStoredOffice};
 
 use crate::fault::LoadError;
-use crate::ordered_lists::{day_list, poll_list, resolution_list, session_list};
+use crate::ordered_lists::{day_list, poll_list, resolution_list, session_list, whole_meeting};
 use crate::query_records::{first, items, records_found};
 use crate::stand_ins::{stand_ins, stand_ins_by_polls, unread};
 use crate::table::listing;
@@ -18,7 +17,7 @@ use office_days::Closed;
 use party_views::PublicRecord;
 use sql_desk_tables::closed::ClosedDays;
 use sql_queries::{meetings, polls, resolutions, sessions};
-use sql_rows::{InMeeting, MeetingRow, Numbered};
+use sql_rows::{InMeeting, Numbered};
 use sql_stored::find;
 use sqlite::{Alter, Transaction};
 use std::alloc::Global;
@@ -67,26 +66,6 @@ pub fn read_closed<S: Alter>(
 {
     let days = listing::<ClosedDays, S>(tx, alloc)?;
     Ok(Closed::from_list(day_list(days)?))
-}
-
-/// A meeting, with its further sessions and its resolutions.
-fn whole_meeting(row: MeetingRow, later: Listing<Session>, resolutions: Resolutions) -> Meeting
-    ensures { result ≡ whole_meeting row later resolutions }
-{
-    Meeting {
-        id: row.id,
-        company: row.company,
-        kind: row.kind,
-        given: row.given,
-        first: Session {
-            appointed: row.appointed,
-            opened: row.opened,
-        },
-        later,
-        record_moment: row.record_moment,
-        resolutions,
-        loaded: row.loaded,
-    }
 }
 
 /// The sessions to which a meeting was adjourned, in order; where there is no meeting of that name,

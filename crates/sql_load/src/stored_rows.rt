@@ -1,8 +1,9 @@
 //! How many rows the tables have whose rows name a meeting.
-ghost use Rattle.std.specs.Prelude.{◌≡◌, ◌+◌, MatchResult, Some};
+ghost use Rattle.std.specs.Prelude.{◌≡◌, ◌+◌, ℕ, MatchResult, Some};
+ghost use Rattle.sqlite.specs.Tree.{Trees};
 ghost use Rattle.sql_load.specs.LoadResults.{any_at_all};
 ghost use Rattle.sql_load.specs.declared.fault.LoadError.TheVariants.{Memory};
-ghost use Rattle.sql_load.specs.StoredRows.{called_rows, rows_in, stored_rows, with_given, with_polled};
+ghost use Rattle.sql_load.specs.StoredRows.{rows_in, stored_rows};
 ghost use Rattle.sql_load.specs.WholeReading.{IsReading};
 
 use crate::fault::LoadError;
@@ -40,52 +41,44 @@ fn rows_in<T: CountedTable, S: Alter>(tx: &mut Transaction<'_, S>) -> Result<usi
     Ok(count)
 }
 
-/// That count, and the rows of a table.
-fn with_rows<T: CountedTable, S: Alter>(
-    tx: &mut Transaction<'_, S>,
-    count: usize,
-) -> Result<usize, LoadError>
-    ensures same_reference { tx.new.conn.ghost_name ≡ tx.old.conn.ghost_name }
-    ensures read { IsReading S.Store tx.old.conn.now tx.new.conn.now any_at_all result
-        (λ trees. Some (count + rows_in T.table trees)) }
-{
-    let rows = rows_in::<T, S>(tx)?;
-    added(count, rows)
+/// Tables, the first in a pair with the others. The last stands before `()`.
+trait CountedTables {
+    // How many rows they have together.
+    ghost rows: { Trees → ℕ };
+
+    /// Counts the rows of each.
+    fn count<S: Alter>(tx: &mut Transaction<'_, S>) -> Result<usize, LoadError>
+        ensures same_reference { tx.new.conn.ghost_name ≡ tx.old.conn.ghost_name }
+        ensures read { IsReading S.Store tx.old.conn.now tx.new.conn.now any_at_all result
+            (λ trees. Some (rows trees)) };
 }
 
-/// The rows of what meetings are called with.
-fn called_rows<S: Alter>(tx: &mut Transaction<'_, S>) -> Result<usize, LoadError>
-    ensures same_reference { tx.new.conn.ghost_name ≡ tx.old.conn.ghost_name }
-    ensures read { IsReading S.Store tx.old.conn.now tx.new.conn.now any_at_all result
-        (λ trees. Some (called_rows trees)) }
-{
-    let count = rows_in::<Sessions, S>(tx)?;
-    let count = with_rows::<Resolutions, S>(tx, count)?;
-    with_rows::<Register, S>(tx, count)
+impl<T: CountedTable> CountedTables for (T, ()) {
+    ghost rows = { rows_in T.table };
+
+    fn count<S: Alter>(tx: &mut Transaction<'_, S>) -> Result<usize, LoadError> {
+        rows_in::<T, S>(tx)
+    }
 }
 
-/// That count, and the rows of what members give.
-fn with_given<S: Alter>(tx: &mut Transaction<'_, S>, count: usize) -> Result<usize, LoadError>
-    ensures same_reference { tx.new.conn.ghost_name ≡ tx.old.conn.ghost_name }
-    ensures read { IsReading S.Store tx.old.conn.now tx.new.conn.now any_at_all result
-        (λ trees. Some (with_given count trees)) }
-{
-    let count = with_rows::<Appointments, S>(tx, count)?;
-    let count = with_rows::<Endings, S>(tx, count)?;
-    with_rows::<Authorities, S>(tx, count)
+impl<T: CountedTable, R: CountedTables> CountedTables for (T, R) {
+    ghost rows = { λ trees. rows_in T.table trees + R.rows trees };
+
+    fn count<S: Alter>(tx: &mut Transaction<'_, S>) -> Result<usize, LoadError> {
+        let first = rows_in::<T, S>(tx)?;
+        let others = R::count(tx)?;
+        added(first, others)
+    }
 }
 
-/// That count, and the rows of who is present, what is demanded, and the polls with their votes.
-fn with_polled<S: Alter>(tx: &mut Transaction<'_, S>, count: usize) -> Result<usize, LoadError>
-    ensures same_reference { tx.new.conn.ghost_name ≡ tx.old.conn.ghost_name }
-    ensures read { IsReading S.Store tx.old.conn.now tx.new.conn.now any_at_all result
-        (λ trees. Some (with_polled count trees)) }
-{
-    let count = with_rows::<Presences, S>(tx, count)?;
-    let count = with_rows::<Demands, S>(tx, count)?;
-    let count = with_rows::<Polls, S>(tx, count)?;
-    with_rows::<Casts, S>(tx, count)
-}
+/// The tables whose rows each name a meeting: those of what it is called with, and the others.
+type Called = (Sessions, (Resolutions, (Register, Given)));
+
+/// Those of what its members give, and the others.
+type Given = (Appointments, (Endings, (Authorities, Polled)));
+
+/// Those of who is present, of what is demanded, and of the polls and their votes.
+type Polled = (Presences, (Demands, (Polls, (Casts, ()))));
 
 /// How many rows of the tables name a meeting, which each of these rows does.
 pub(crate) fn stored_rows<S: Alter>(tx: &mut Transaction<'_, S>) -> Result<usize, LoadError>
@@ -93,7 +86,5 @@ pub(crate) fn stored_rows<S: Alter>(tx: &mut Transaction<'_, S>) -> Result<usize
     ensures read { IsReading S.Store tx.old.conn.now tx.new.conn.now any_at_all result
         (λ trees. Some (stored_rows trees)) }
 {
-    let count = called_rows(tx)?;
-    let count = with_given(tx, count)?;
-    with_polled(tx, count)
+    Called::count(tx)
 }

@@ -1,4 +1,4 @@
--- Nothing is told but that the tables are open, by their version.
+-- Nothing is read but the version, which shows that the tables are open.
 use Rattle.std.proofs.Common.{◌≡◌, List, Ok, Err, Result, refl, sym, subst}
 use Rattle.sqlite.specs.declared.error.Error.{Error}
 use Rattle.sqlite.specs.Held.{Held, state}
@@ -24,7 +24,7 @@ module _ {S X : Type 0} (g : store.Ghosts S) (a b : Held S) (preserved : HasClea
   changes : ChangesNothing g a b
   changes = record { preserved = λ read. preserved read.0 (noted read).noted; was_open = was_open; crash = crash }
 
-  -- what needs no telling
+  -- what needs no reading
   pub asked_so : {V : Type 0} (items : V → List Row) (v : V) (x : X) → (HasCleanDisk (state g b) → AreNoted (state g a) → ReadsTable g a b table.desk (items v)) → ((office : OfficeLists) → R office x) → HoldsOfStoredOffice g a b (Ok x) R
   asked_so items v x reads so = record {
     holds = λ read office holds preserved. so office;
@@ -32,7 +32,7 @@ module _ {S X : Type 0} (g : store.Ghosts S) (a b : Held S) (preserved : HasClea
     changes = changes;
   }
 
-  -- and why the version was not told
+  -- and why the version was not read
   pub asked_stop : (e : Error) (r : Result X LoadError) → r ≡ Err (fault_of_error e) → HoldsOfStoredOffice g a b r R
   asked_stop e r is = subst (λ (q : Result X LoadError). HoldsOfStoredOffice g a b q R) (sym is) (record {
     holds = λ read office holds preserved. error_returns (R office) e;

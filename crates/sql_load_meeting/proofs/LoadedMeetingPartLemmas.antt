@@ -1,4 +1,4 @@
--- A meeting with some of its lists, from what was told of each.
+-- A meeting with some of its lists, from the reading of each.
 use Rattle.std.proofs.Common.{◌≡◌, ℕ, Bool, true, false, ◌||◌, cond, List, Option, Some, None, Result, IsTrue, refl, sym, subst, ap, ap₂, ◌∙◌}
 use Rattle.std.specs.Cmp.{first_so}
 use Rattle.std.specs.Prelude.{option_map}
@@ -46,7 +46,7 @@ IsWith on id polls office lists =
 abbrev pub IsWithPart : Option ℕ → List ℕ → (List Poll → List Poll) → OfficeLists → Option MeetingLists → Type 0
 IsWithPart on id part office lists = lists ≡ option_map (λ (m : MeetingLists). with_polls (counted_up_to on m.meeting) (part m.polls)) (meeting_at office id)
 
--- what is told of a meeting once what is read first is read is what the request reads of it, where it is so of each meeting
+-- what is returned of a meeting once what is read first is read is what the request reads of it, where it is so of each meeting
 module _ {S : Type 0} (g : store.Ghosts S) (a b : Held S) (r : Result (List ℕ) LoadError) (asked what : OfficeRequest) (is_what : asked ≡ what) (id : List ℕ) (polls new : MeetingLists) (days : List ℕ → List ℕ) (rest : MeetingLists → Option MeetingLists → MeetingLists)
     (closed : (all : List ℕ) → days all ≡ days_read what all) (lists : (m : MeetingLists) → rest (first_read what m) (Some m) ≡ lists_read what m) where
   read_for : (office : OfficeLists) (found : List ℕ) → IsReadWith found (days office.closed) new (rest polls (meeting_at office id)) → (m : MeetingLists) → meeting_at office id ≡ Some m → polls ≡ first_read asked m → AreReadFor asked office m (record { closed = found; lists = new })

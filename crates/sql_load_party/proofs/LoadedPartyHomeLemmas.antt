@@ -15,7 +15,7 @@ use Rattle.sql_load.specs.TableLookUps.{HoldsOfStoredOffice, IsLookUpFailure}
 use Rattle.sql_load.proofs.StoredOfficeLemmas.{returns_weaker}
 
 module _ {S X : Type 0} (g : store.Ghosts S) (a b : Held S) (result : Result X LoadError) where
-  -- what is told of the meeting that the tables show is told of their office
+  -- what is returned of the meeting that the tables show is returned of their office
   pub of_returned : (meeting : MeetingName) (P : OfficeLists → X → Type 0) (Q : Option MeetingLists → X → Type 0) → (HasCleanDisk (state g b) → (found : Option MeetingLists) → ShowsMeeting g a meeting found → MatchResult result (Q found) IsLookUpFailure)
       → OnOk result (KeepsStoredTables g a b) → LeavesTables g a b → ((office : OfficeLists) (x : X) → Q (meeting_at office meeting) x → P office x) → HoldsOfStoredOffice g a b result P
   of_returned meeting P Q returned preserved left next = record {

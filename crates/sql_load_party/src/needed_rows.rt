@@ -1,7 +1,7 @@
 //! Those of a party's rows in a meeting that the answer to its request reads, read from the tables.
 ghost use Rattle.std.specs.Prelude.{◌≡◌};
 ghost use Rattle.std.proofs.Common.{◌∙◌};
-ghost use Rattle.party_views.specs.RowsRead.{own_rows_read};
+ghost use Rattle.party_views.specs.RowsRead.{own_rows_part, own_rows_read};
 ghost use Rattle.party_views.specs.PartyRows.{own_rows_in};
 ghost use Rattle.party_views.specs.Views.{meeting_at};
 ghost use Rattle.sqlite.specs.Held.{state};
@@ -20,7 +20,7 @@ use desk_words::{
 };
 use party_views::{OwnRows, Reads, reads_of};
 use proxy_rules::Claim;
-use row_source::{GivenTo, RowSource};
+use row_source::{GivenTo, RowSource, read_own_rows as read_from};
 use sql_load::LoadError;
 use sqlite::{Alter, Transaction};
 use std::alloc::Global;
@@ -138,6 +138,22 @@ impl<S: Alter> RowSource for InTables<'_, '_, S> {
     ghost memory_may_fail = { laws.memory_may_fail };
 }
 
+/// Those of the rows of a party in a meeting; where there is none of that name, none.
+fn rows_read<S: Alter>(
+    tx: &mut Transaction<'_, S>,
+    alloc: Global,
+    meeting: MeetingId,
+    party: Party,
+    what: &Reads,
+) -> Result<OwnRows, LoadError>
+    ensures same_reference { tx.new.conn.ghost_name ≡ tx.old.conn.ghost_name }
+    ensures holds { HoldsOfStoredOffice S.Store tx.old.conn.now tx.new.conn.now result
+        (λ office rows. rows
+        ≡ own_rows_part what.now (own_rows_in (meeting_at office meeting) party)) }
+{
+    read_from(&mut InTables { alloc, tx, meeting }, alloc, party, what)
+}
+
 /// The rows of a party in a meeting; where there is none of that name, none. Of the tables it reads
 /// what names both, and of the members who named the party and of the corporations that authorised
 /// it their own.
@@ -151,12 +167,7 @@ pub fn read_own_rows<S: Alter>(
     ensures holds { HoldsOfStoredOffice S.Store tx.old.conn.now tx.new.conn.now result
         (λ office rows. rows ≡ own_rows_in (meeting_at office meeting) party) }
 {
-    row_source::read_own_rows(
-        &mut InTables { alloc, tx, meeting },
-        alloc,
-        party,
-        &Reads::Everything,
-    )
+    rows_read(tx, alloc, meeting, party, &Reads::Everything)
 }
 
 /// Those of a party's rows in a meeting that the answer to its request reads, and nothing in place
@@ -175,10 +186,5 @@ pub fn read_own_rows_for<S: Alter>(
         (λ office rows. rows
         ≡ own_rows_read asked.now (own_rows_in (meeting_at office meeting) party)) }
 {
-    row_source::read_own_rows(
-        &mut InTables { alloc, tx, meeting },
-        alloc,
-        party,
-        &reads_of(asked),
-    )
+    rows_read(tx, alloc, meeting, party, &reads_of(asked))
 }

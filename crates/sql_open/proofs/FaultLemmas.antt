@@ -1,4 +1,4 @@
--- What the refusal of a statement is told as.
+-- Which fault the refusal of a statement becomes.
 use Rattle.std.proofs.Common.{◌≡◌, ◌≢◌, ◌⊎◌, inl, inr, refl, subst}
 use Rattle.sqlite.specs.Effect.{Database}
 use Rattle.sqlite.specs.State.{State}
@@ -25,7 +25,7 @@ pub of_the_store : (e : Error) → (open_fault_of e ≡ Store) ⊎ (open_fault_o
 of_the_store (SqliteFailure OutOfMemory) = inr refl
 of_the_store other = inl refl
 
--- the database is told to be no desk where a column is missing, and only there
+-- the database is refused as no desk where a column is missing, and only there
 pub missing_alone : (f : ColumnError) → fault_of_columns f ≡ NotADesk → f ≡ Missing
 missing_alone Missing h = refl
 missing_alone (Refused (SqliteFailure OutOfMemory)) h = cc

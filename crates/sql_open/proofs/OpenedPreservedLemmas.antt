@@ -66,12 +66,12 @@ pub opened_same : (known : KnownVersion) (s t new : State) → s.now ≡ t.now �
 opened_same One s t new same h = (made_same One s t same h.0, moved_same s new t new same refl h.1)
 opened_same Two s t new same h = h ∙ same
 
--- ---- tables whose version was told, and what was then told of them
+-- ---- tables whose version was read, and what was then judged of them
 
 module _ {S : Type 0} (g : store.Ghosts S) (known : KnownVersion) (old reported new : Held S) (live : IsLive (state g old))
     (same : HasCleanDisk (state g reported) → IsTrue (state g reported).is_open → IsTrue (state g old).is_open × ((state g reported).now ≡ (state g old).now)) (early : HasCleanDisk (state g new) → HasCleanDisk (state g reported))
     (noted : HasCleanDisk (state g reported) → NotesVersion (state g old).now.schema → IsVersionOf (edition_of known) (state g old)) (shown : HasCleanDisk (state g reported) → ShowsKnown g (state g old).now known) where
-  -- the tables that were told are those that were
+  -- the tables that were judged are those that were
   as_reported : HasCleanDisk (state g new) → IsTrue (state g reported).is_open → (state g reported).now ≡ (state g old).now
   as_reported clean is_open = (same (early clean) is_open).1
 
@@ -183,7 +183,7 @@ module _ {S : Type 0} (g : store.Ghosts S) (old reported new : Held S) (judged :
       })
       judged later
 
--- why their version was not told
+-- why their version was not read
 pub version_cause : {S : Type 0} (g : store.Ghosts S) (old new : Held S) (fault : OpenFault) → IsLive (state g old) → (HasCleanDisk (state g new) → RowsRise (state g old)) → (HasCleanDisk (state g new) → AreNoted (state g old) → IsFaultOf HasNoVersion fault (state g old))
     → (HasCleanDisk (state g new) → fault ≡ NewerVersion → ShowsLater g (state g old).now) → (HasCleanDisk (state g new) → (fault ≡ NotADesk) ⊎ (fault ≡ NewerVersion) → IsTrue (state g old).is_open) → IsWhyUnopened g old fault (back.Connection new)
 version_cause g old new fault live rise cause newer was_open = record { cause = why; newer = newer; whole = λ clean office whole. no_fault_of_whole fault (state g old) office whole live (was_open clean) (why clean) }

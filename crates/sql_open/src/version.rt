@@ -104,7 +104,7 @@ fn ask_version<S: Alter>(conn: &mut Connection<S>, alloc: Global) -> Result<Know
     read
 }
 
-/// Judges which version the tables are, whatever tables they are. A version is told only where the
+/// Judges which version the tables are, whatever tables they are. A version is returned only where the
 /// text that reads the version shows it, and the fault is `NewerVersion` only where it shows a later
 /// one. Of tables that note their version it is `NotADesk` only where they note none.
 pub(crate) fn judge_version<S: Alter>(

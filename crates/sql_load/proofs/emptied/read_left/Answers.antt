@@ -17,18 +17,18 @@ as_one : {S : Type 0} (g : store.Ghosts S) (a b : Held S) (r : Result (Unit {0})
     → IsReading g a b any_at_all r (λ trees. guard (are_left_empty trees))
 as_one g a b r h = subst (λ (said : Trees → Option (Unit {0})). IsReading g a b any_at_all r said) left_is h
 
-pub returns-in_err-no_presences-clause-read : goal.returns-in_err-no_presences-clause-read
-returns-in_err-no_presences-clause-read g c =
-    let is : c.from_residual.result ≡ Err c.in_err-no_presences.field-0.0 = search rules in
-    as_one g.S.Store _ _ c.from_residual.result (stop g.S.Store _ _ _ _ _ _ c.from_residual.result is c.in_err-no_presences.ensures.read)
+pub returns-in_err-no_rows-clause-read : goal.returns-in_err-no_rows-clause-read
+returns-in_err-no_rows-clause-read g c =
+    let is : c.from_residual.result ≡ Err c.in_err-no_rows.field-0.0 = search rules in
+    as_one g.S.Store _ _ c.from_residual.result (stop g.S.Store _ _ _ _ _ _ c.from_residual.result is c.in_err-no_rows.ensures.read)
 
-pub returns-in_err-no_demands-clause-read : goal.returns-in_err-no_demands-clause-read
-returns-in_err-no_demands-clause-read g c =
-    let is : c.from_residual-in_err-no_demands.result ≡ Err c.in_err-no_demands.field-0.0 = search rules in
-    as_one g.S.Store _ _ c.from_residual-in_err-no_demands.result
-    (then g.S.Store _ _ _ _ _ _ _ _ c.in_ok-no_presences.ensures.read (stop g.S.Store _ _ _ _ _ _ c.from_residual-in_err-no_demands.result is c.in_err-no_demands.ensures.read))
+pub returns-in_err-no_rows-2-clause-read : goal.returns-in_err-no_rows-2-clause-read
+returns-in_err-no_rows-2-clause-read g c =
+    let is : c.from_residual-in_err-no_rows-2.result ≡ Err c.in_err-no_rows-2.field-0.0 = search rules in
+    as_one g.S.Store _ _ c.from_residual-in_err-no_rows-2.result
+    (then g.S.Store _ _ _ _ _ _ _ _ c.in_ok-no_rows.ensures.read (stop g.S.Store _ _ _ _ _ _ c.from_residual-in_err-no_rows-2.result is c.in_err-no_rows-2.ensures.read))
 
 pub returns-clause-read : goal.returns-clause-read
 returns-clause-read g c =
-    as_one g.S.Store _ _ c.no_polls.result
-    (then g.S.Store _ _ _ _ _ _ _ _ c.in_ok-no_presences.ensures.read (then g.S.Store _ _ _ _ _ _ _ _ c.in_ok-no_demands.ensures.read c.no_polls.ensures.read))
+    as_one g.S.Store _ _ c.no_rows-3.result
+    (then g.S.Store _ _ _ _ _ _ _ _ c.in_ok-no_rows.ensures.read (then g.S.Store _ _ _ _ _ _ _ _ c.in_ok-no_rows-2.ensures.read c.no_rows-3.ensures.read))

@@ -1,12 +1,12 @@
-use Rattle.std.proofs.Common.{◌≡◌, Err, Ok, Some, rules, sym, ◌∙◌}
+use Rattle.std.proofs.Common.{◌≡◌, Err, Some, rules, sym, ◌∙◌}
 use Rattle.desk_words.specs.Office.{is_meeting}
 use Rattle.vocabulary.specs.OptionSteps.{◌>>=◌, guard}
 use Rattle.sql_load.specs.LoadResults.{any_at_all}
-use Rattle.sql_load.specs.declared.fault.LoadError.TheVariants.{Memory, NoOffice}
-use Rattle.sql_load.specs.Judging.{judged_but_votes}
+use Rattle.sql_load.specs.declared.fault.LoadError.TheVariants.{NoOffice}
+use Rattle.sql_load.specs.Judging.{judged_as}
 use Rattle.sql_load.specs.MeetingReading.{but_votes}
-use Rattle.sql_load.proofs.MeetingReadLemmas.{judged_stop, last_known, out_of_memory}
-use Rattle.sql_load.proofs.OrderedMeetingLemmas.{judged_as, judged_right, judged_wrong}
+use Rattle.sql_load.proofs.MeetingReadLemmas.{judged_stop, last_known}
+use Rattle.sql_load.proofs.OrderedMeetingLemmas.{judged_made, judged_wrong}
 use Rattle.sql_load.proofs.judging.judge_but_votes.Goals as goal
 
 pub returns-in_err-lists-clause-read : goal.returns-in_err-lists-clause-read
@@ -21,10 +21,5 @@ returns-in_default-clause-read g c =
 
 pub returns-clause-read : goal.returns-clause-read
 returns-clause-read g c =
-    last_known g.S.Store _ _ is_meeting (but_votes c.args.row) any_at_all c.in_ok-lists.lists (Ok (record { rows = c.in_ok-rows.rows; polls = c.in-Some.checked.polls })) (λ l. guard (is_meeting l) >>= λ _. Some (judged_as l)) c.in_ok-lists.ensures.read
-    (λ trees held. judged_right c.args.row trees c.in_ok-lists.lists c.in-Some.checked held c.in-Some.ensures c.in_ok-rows.rows c.in_ok-rows.ensures)
-
-pub returns-in_err-rows-clause-read : goal.returns-in_err-rows-clause-read
-returns-in_err-rows-clause-read g c =
-    let is : c.from_residual-in_err-rows.result ≡ Err Memory = search rules in
-    out_of_memory g.S.Store _ _ is_meeting any_at_all c.in_ok-lists.lists c.from_residual-in_err-rows.result (but_votes c.args.row) (judged_but_votes c.args.row) is c.in_ok-lists.ensures.read
+    last_known g.S.Store _ _ is_meeting (but_votes c.args.row) any_at_all c.in_ok-lists.lists c.judged_as.result (λ l. guard (is_meeting l) >>= λ _. Some (judged_as l)) c.in_ok-lists.ensures.read
+    (λ trees held. judged_made c.args.row trees c.in_ok-lists.lists c.in-Some.checked held c.in-Some.ensures c.judged_as.result c.judged_as.ensures)

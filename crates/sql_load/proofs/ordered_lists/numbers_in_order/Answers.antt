@@ -25,17 +25,17 @@ pub returns-then-not-is_sorted_by-clause-none : goal.returns-then-not-is_sorted_
 returns-then-not-is_sorted_by-clause-none g c = λ _.
     let rows = c.args.rows.items in
     let sorted = c.sort_unstable_by_key.new.self.items in
-    let told : c.is_sorted_by.result ≡ ascends_by before sorted =
+    let ascends : c.is_sorted_by.result ≡ ascends_by before sorted =
     ascends-from_answer before c.deref.result.now c.is_sorted_by.result (c.is_sorted_by.ensures.cases before (answers_always _ _ _ (λ f a r next called. search rules))) ∙ ap (ascends_by before) c.deref.ensures.value in
     subst (λ b. ascends_by b (sort_by b rows) ≡ false) same_order
     (never_ascends nat_cmp_total number_of rows
-    (sym (ascends_by-sorted nat_cmp_total number_of rows sorted c.sort_unstable_by_key.ensures.permutation (c.sort_unstable_by_key.ensures.sorted number_of (answers_always _ _ _ (λ f a r next called. search rules)))) ∙ sym told ∙ c.if-not-is_sorted_by.true))
+    (sym (ascends_by-sorted nat_cmp_total number_of rows sorted c.sort_unstable_by_key.ensures.permutation (c.sort_unstable_by_key.ensures.sorted number_of (answers_always _ _ _ (λ f a r next called. search rules)))) ∙ sym ascends ∙ c.if-not-is_sorted_by.true))
 
 pub returns-clause-some : goal.returns-clause-some
 returns-clause-some g c =
     let rows = c.args.rows.items in
     let sorted = c.sort_unstable_by_key.new.self.items in
-    let told : c.is_sorted_by.result ≡ ascends_by before sorted =
+    let ascends : c.is_sorted_by.result ≡ ascends_by before sorted =
     ascends-from_answer before c.deref.result.now c.is_sorted_by.result (c.is_sorted_by.ensures.cases before (answers_always _ _ _ (λ f a r next called. search rules))) ∙ ap (ascends_by before) c.deref.ensures.value in
-    sort_by-ascending nat_cmp_total number_of rows sorted c.sort_unstable_by_key.ensures.permutation (sym told ∙ c.if-not-is_sorted_by.false)
+    sort_by-ascending nat_cmp_total number_of rows sorted c.sort_unstable_by_key.ensures.permutation (sym ascends ∙ c.if-not-is_sorted_by.false)
     ∙ ap (λ b. sort_by b rows) same_order

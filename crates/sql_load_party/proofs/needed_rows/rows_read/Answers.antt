@@ -1,7 +1,7 @@
 use Rattle.std.proofs.Common.{sym}
 use Rattle.std.proofs.lemmas.Result.{on_ok_weaker}
 use Rattle.sql_load_party.proofs.LoadedPartyHomeLemmas.{of_returned}
-use Rattle.sql_load_party.proofs.needed_rows.read_own_rows.Goals as goal
+use Rattle.sql_load_party.proofs.needed_rows.rows_read.Goals as goal
 
 pub returns-clause-holds : goal.returns-clause-holds
 returns-clause-holds g c =
