@@ -56,8 +56,8 @@ struct Polled {
     polls: Listing<Poll>,
 }
 
-/// The further sessions of a meeting. The fault is `NoOffice` only where a row is none, or they are
-/// too many.
+/// The further sessions of a meeting. The fault is `NoOffice` only where a row is none, they are not
+/// numbered 2, 3, .., or they are too many.
 fn read_sessions<S: Alter>(
     tx: &mut Transaction<'_, S>,
     alloc: Global,
@@ -71,8 +71,8 @@ fn read_sessions<S: Alter>(
     session_list(alloc, rows)
 }
 
-/// The resolutions of a meeting. The fault is `NoOffice` only where a row is none, or there are none or
-/// too many.
+/// The resolutions of a meeting. The fault is `NoOffice` only where a row is none, they are not numbered
+/// 1, 2, .., or there are none or too many.
 fn read_resolutions<S: Alter>(
     tx: &mut Transaction<'_, S>,
     alloc: Global,
