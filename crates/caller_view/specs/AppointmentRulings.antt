@@ -1,4 +1,4 @@
--- Appointments that a party gives and ends, and what it is told of them.
+-- Appointments that a party gives and ends, and the replies to it.
 use Rattle.std.specs.Prelude.{suc, Bool, false, not, ◌==◌, nat_le, List, [], ◌∷◌, length, find, Option, Some, None, is_none, is_some, if◌then◌else◌}
 use Rattle.desk_words.specs.Names.{same_name}
 use Rattle.desk_words.specs.Places.{is_range}

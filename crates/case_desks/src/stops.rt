@@ -89,8 +89,8 @@ impl<'a, D: DeskFiles> Stops<'a, D> {
         Ok(tries.beside(self.text_of(outcome)?))
     }
 
-    /// Gives a command, which changes what is told or does not, and then stops it at each call of
-    /// its files.
+    /// Gives a command, which changes some reply or none, and then stops it at each call of its
+    /// files.
     pub(crate) fn stop(&mut self, text: &str, is_change: bool) -> Result<Answer, AllocError> {
         let asked = asked_of(text);
         let before = self.held()?;

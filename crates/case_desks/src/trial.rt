@@ -8,7 +8,7 @@ use std::alloc::{AllocError, Global};
 /// No command makes so many calls of its files.
 const MANY: u64 = 100_000;
 
-/// An office: the files that hold it, and what is told of it.
+/// An office: the files that hold it, and its replies.
 #[derive(Drop)]
 pub(crate) struct Held<D> {
     disks: D,
@@ -77,7 +77,7 @@ impl Tries {
     }
 }
 
-/// What is told of the office in two files: what its book replies to each of some calls.
+/// The replies of the office in two files: what its book replies to each of some calls.
 fn shown<D: DeskFiles>(disks: &D, watched: &[&str]) -> Result<Outcome, AllocError> {
     Ok(disks.copy(Stop::Never)?.ask(&Asked::Book(watched)))
 }
@@ -98,7 +98,7 @@ impl<D: DeskFiles> Held<D> {
 }
 
 impl<D: DeskFiles> Trial<'_, D> {
-    /// Whether the same is told before and after it.
+    /// Whether the replies before and after it are the same.
     fn is_same(&self) -> bool {
         self.before.shown == self.after.shown
     }
@@ -157,7 +157,7 @@ impl<D: DeskFiles> Trial<'_, D> {
         tries.report("it makes too many calls")
     }
 
-    /// Stops a command at each call of its files; it changes what is told, or does not.
+    /// Stops a command at each call of its files; it changes some reply, or none.
     pub(crate) fn stop_each(
         &self,
         asked: &Asked,
@@ -165,7 +165,7 @@ impl<D: DeskFiles> Trial<'_, D> {
         tries: &mut Tries,
     ) -> Result<(), AllocError> {
         if self.is_same() == is_change {
-            tries.report("it changes nothing that is told, or something")?;
+            tries.report("it changes no reply, or some reply")?;
         }
         self.stop_at_each(asked, tries)?;
         tries.end(is_change)

@@ -1,8 +1,8 @@
 //! What files spell.
 //!
 //! A small file is read in several ways: whole, a few bytes at a time, and with each read failing
-//! in turn. It has to spell the same however the bytes come, and a read that fails is told, whatever
-//! the file says.
+//! in turn. It has to spell the same however the bytes come, and a read that fails is reported,
+//! whatever the file says.
 use crate::endings::ended_text;
 use crate::findings::Answer;
 use byte_io::{FailAt, ShortReads, SliceSource};

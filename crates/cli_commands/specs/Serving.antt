@@ -11,7 +11,7 @@ use Rattle.http_listener.specs.declared.listening.LoopFault.{LoopFault}
 use Rattle.http_listener.specs.declared.listening.LoopFault.TheVariants.{Clock, Socket}
 use Rattle.tcp_close.specs.declared.listener.Listener as listener
 
--- how the end of a loop over connections is told
+-- the ending that is reported for the end of a loop over connections
 abbrev pub ending_of : Result (Unit {0}) LoopFault → Ending
 ending_of (Ok x) = success
 ending_of (Err Socket) = ended_by fault.Socket

@@ -68,13 +68,13 @@ module _ {O : Type 0} (g : office.Ghosts O) where
     written,
   )
 
-  -- where there is no answer, and its failure is told
+  -- where there is no answer, and its failure is written
   pub failed_served : {T E : Type 0} (r : Result T E) (now : Moment) (received : ReceivedRequest) (old new : O) (why : AnswerError) (IsWritten : List ℕ → Type 0)
       → LeavesOffice g None old new → OnOk r (FailureTextHolds why IsWritten) → OnOk r (Serves g now received old new IsWritten)
   failed_served (Ok x) now received old new why IsWritten leaves h = serves_failure now received old new h.0 IsWritten leaves h.2
   failed_served (Err e) now received old new why IsWritten leaves h = tt
 
-  -- and where it is told in part
+  -- and where it is written in part
   pub failed_partly : {T : Type 0} (r : Result T ServeFault) (now : Moment) (received : ReceivedRequest) (old new : O) (why : AnswerError) (IsWritten : List ℕ → Type 0)
       → LeavesOffice g None old new → IfErr r (λ fault. fault ≡ Write → FailureTextHolds why IsWritten) → IfErr r (λ fault. fault ≡ Write → Serves g now received old new IsWritten)
   failed_partly (Ok x) now received old new why IsWritten leaves h = tt
@@ -98,7 +98,7 @@ module _ {O W : Type 0} (g : office.Ghosts O) (h : sink.Ghosts W) (now : Moment)
     failed = sent_badly written returned is failed (λ same. same);
   }
 
-  -- where there is none, and its failure is told
+  -- where there is none, and its failure is written
   pub unanswered_replies : {T : Type 0} (returned : Result T ServeFault) (why : AnswerError) → (why ≡ CutOff → IsCutOff g received old new) → LeavesOffice g None old new
       → MakesCall g now received old new
       → OnOk returned (FailureTextHolds why (WritesText h before after)) → OnFault returned Write (FailureTextHolds why (WritesPart h before after)) → OnFault returned Read ((why ≡ CutOff) × (after ≡ before))
@@ -115,7 +115,7 @@ module _ {O W : Type 0} (g : office.Ghosts O) (h : sink.Ghosts W) (now : Moment)
 
 -- ---- one request
 
--- what a device did is not told as a clock that gave no moment
+-- what a device did is not reported as a clock that gave no moment
 pub served_no_clock : {T : Type 0} (returned : Result T ServeFault) → as_served returned ≡ Err Clock → ⊥
 served_no_clock (Ok x) is = absurd (cc)
 served_no_clock (Err fault) is = absurd (cc)

@@ -111,9 +111,9 @@ as_write (Err e) = Err Write
 
 -- ---- what one request comes to
 
--- what was received is answered by an office at a moment, and written: the reply or a failure is
--- told, or a write failed, or the body was cut off, and then nothing is written or changed;
--- whatever is reported, one call was tried at most
+-- what was received is answered by an office at a moment: the reply or a failure is written, or a
+-- write failed, or the body was cut off, and then nothing is written or changed; whatever is
+-- reported, one call was tried at most
 pub record Replies {T O W : Type 0} (g : office.Ghosts O) (h : sink.Ghosts W) (now : Moment)
     (received : ReceivedRequest) (result : Result T ServeFault) (old new : O) (before after : W)
     : Type 0 where
@@ -159,7 +159,7 @@ pub record IsUntimed {T C R : Type 0} (k : clock.Ghosts C) (r : source.Ghosts R)
   pub fails : k.fails from till
 
 -- one request is served by an office: it is read, then answered at the moment that a clock gives,
--- and what is told of it is written; or it is not read, or the clock gives no moment, and then
+-- and the answer is written; or it is not read, or the clock gives no moment, and then
 -- nothing is written or changed
 abbrev pub ServesRequest : {T O C R W : Type 0} → office.Ghosts O → clock.Ghosts C
     → source.Ghosts R → sink.Ghosts W → Result T NowError

@@ -39,8 +39,8 @@ impl Clock for OnlyAt {
 /// moment is served after it, however early it connected.
 ///
 /// What is written is exactly the text of the reply to what the bytes spell, and the office is the
-/// one after that call; or it is a fixed text that tells of a failure, and the office is as it was.
-/// `Read` and `Write` are told only where that device failed, once in the call. After `Read`
+/// one after that call; or it is the fixed text of a failure, and the office is as it was.
+/// `Read` and `Write` are returned only where that device failed, once in the call. After `Read`
 /// nothing is written or changed, and the clock was not asked, but for a source that failed in the
 /// body; after `Write` a part of one of these texts is written, and the office is as after that
 /// text; after `Clock` nothing is written or changed. The one call that may have been tried, answered

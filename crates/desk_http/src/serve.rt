@@ -46,7 +46,7 @@ fn write_failure<W: Sink>(failure: Failure, writer: &mut W) -> Result<(), Device
     write_all(writer, failure_reply(failure).as_bytes())
 }
 
-/// How a write that ends a request is told.
+/// What is returned for the write that ends a request.
 fn sent(written: Result<(), DeviceError>) -> Result<(), ServeFault>
     ensures { result ≡ as_write written }
 {

@@ -79,7 +79,7 @@ module _ {O D F R K C I W E P L N M : Type 0} (o : offices.Ghosts O D) (d : offi
   DoesRead (Ok planned) before after end = Does planned before after end
   DoesRead (Err fault) before after end = (end ≡ ended_by_words fault) × (after ≡ before)
 
-  -- the words were read, what they ask for was done, and the end of that was told
+  -- the words were read, what they ask for was done, and the end of that was reported
   pub record Runs (words : List (List ℕ)) (before after : Host O F K I W E P) (status : ℕ)
       : Type 0 where
     pub read : Result Plan WordsFault

@@ -90,7 +90,7 @@ module _ {L R W C O : Type 0} (l : listener.Ghosts L R W) (r : source.Ghosts R) 
   EndsBy made count (Err Socket) between after = (made < count) × HasNoListener between after
   EndsBy made count (Err fault.Clock) between after = (made < count) × HasNoMoment between after
 
-  -- turns were made, one after another, and then this is told: so many, or fewer where it is a
+  -- turns were made, one after another, and then this is returned: so many, or fewer where it is a
   -- fault
   pub record ServesTurns (count : ℕ) (result : Result (Unit {0}) LoopFault)
       (before after : Standing L C O) : Type 0 where

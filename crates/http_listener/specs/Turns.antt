@@ -63,7 +63,7 @@ module _ {O : Type 0} (g : office.Ghosts O) where
 abbrev pub RanAt : {C O : Type 0} → clock.Ghosts C → office.Ghosts O → ℕ → C → C → O → O → Type 0
 RanAt k g most before after old new = Turned g k.gives most before after old new
 
--- such a run was made; and where no moment was told, the clock gave no further one
+-- such a run was made; and where the loop ended for want of a moment, the clock gave no further one
 abbrev pub RanBy : {L C O : Type 0} → clock.Ghosts C → office.Ghosts O → ℕ
     → Result (Unit {0}) LoopFault → Standing L C O → Standing L C O → Type 0
 RanBy {C = C} k g most (Err fault.Clock) before after =

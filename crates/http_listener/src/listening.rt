@@ -10,7 +10,7 @@ use std::alloc::Global;
 use tcp_close::{Accepted, Connection, Listener, SocketError, next_connection};
 use wall_clock::{Clock, ClockError};
 
-/// Why a loop ends before all its connections were served. Want of memory is told to the peer, so
+/// Why a loop ends before all its connections were served. Want of memory is a reply to the peer, so
 /// it ends no loop.
 #[derive(Clone, Copy, Debug, PartialEq, Eq)]
 pub enum LoopFault {
@@ -110,9 +110,9 @@ fn serve_next<O: Office, L: Listener, C: Clock>(
 /// open each request is answered by 503 and changes nothing. `laws::loops_are_runs` says what such a
 /// loop asked of the office, also for a crash.
 ///
-/// `Socket` is told only where the listener failed, and not by one peer that is gone; then nothing
-/// else was asked. `Clock` is told only where the clock gave no moment for a request that was read;
-/// its connection was ended, and nothing was written or changed.
+/// The error is `Socket` only where the listener failed, and not where one peer is gone; then
+/// nothing else was asked. It is `Clock` only where the clock gave no moment for a request that was
+/// read; its connection was ended, and nothing was written or changed.
 pub fn serve_loop<O: Office, L: Listener, C: Clock>(
     alloc: Global,
     listener: &mut L,

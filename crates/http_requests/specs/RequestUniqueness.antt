@@ -19,7 +19,7 @@ abbrev pub is_definite_received : ReceivedRequest → Bool
 is_definite_received (Refused refusal) = true
 is_definite_received (With key content) = is_definite content
 
--- all that is told of an input is one thing, but where its first 8,192 bytes hold no head and end
+-- all that an input spells is one thing, but where its first 8,192 bytes hold no head and end
 -- inside the target
 abbrev pub SpellsOne : Type 0
 SpellsOne =

@@ -167,7 +167,7 @@ fn received<S: Source>(alloc: Global, head: &HeadReader, source: &mut S) -> Rece
 /// unreadable, and memory is wanted for one that is whole alone.
 ///
 /// The error is one failed call of the source before the whole head had come. A source that fails
-/// in the body is told as `Failed` beside the key.
+/// in the body gives `Failed` beside the key.
 pub fn read_request<S: Source>(
     alloc: Global,
     source: &mut S,

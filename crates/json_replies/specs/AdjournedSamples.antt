@@ -1,5 +1,5 @@
--- What is told of a meeting of one session, and of it once it was adjourned: values whose texts are
--- given letter for letter.
+-- Replies about a meeting of one session, and about it once it was adjourned: values whose texts
+-- are given letter for letter.
 use Rattle.std.specs.Prelude.{ℕ, true, false, List, [], ◌∷◌, codes, Some, None}
 use Rattle.serde_json.specs.Written.{compact_text}
 use Rattle.vocabulary.specs.Names.{in_places}

@@ -1,4 +1,4 @@
--- The texts of short replies, of failures, and of what is told of a meeting of one session and of
+-- The texts of short replies, of failures, and of replies about a meeting of one session and of
 -- two, letter for letter.
 use Rattle.std.specs.Prelude.{◌≡◌, ◌++◌, ℕ, Bool, true, false, List, [], ◌∷◌, codes, decimal}
 use Rattle.vocabulary.specs.Refusals.{number_of, name_of}

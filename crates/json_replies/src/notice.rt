@@ -70,7 +70,7 @@ fn put_poll_head(out: &mut Writer, noticed: &NoticedPoll) -> Result<(), AllocErr
     put_or_null(out, "result", &noticed.result)
 }
 
-/// Writes a poll; its session is told where the meeting was adjourned.
+/// Writes a poll, with its session where the meeting was adjourned.
 fn write_poll(out: &mut Writer, adjourned: bool, noticed: &NoticedPoll) -> Result<(), AllocError>
     ensures { OnOk result
         (WritesValue (noticed_poll_data adjourned noticed.now) out.old out.new) }

@@ -40,7 +40,7 @@ use Rattle.laws_run.specs.NearParts.{Near, Part, Viewer, is_near, near_in}
 use Rattle.laws_run.specs.Traces.{is_giving, is_shown, names_party}
 use Rattle.laws_run.proofs.RunsPartLemmas.{authorising-near, counting-near, giving-near, is_near_some, near_some, rows_from, rows-near}
 
--- the answer to a party in a meeting, before it is told where its change is made
+-- the answer to a party in a meeting, before the meeting of its change is set
 abbrev pub answer_to : OfficeLists → List ℕ → ℕ → List ℕ → PartyRequest → Answer Entry
 answer_to o party now at what = ruled_answer (party_ruling (public_of o at) (own_of o party at now) now what)
 

@@ -58,7 +58,7 @@ party-unseen viewer o party now (asked.Party at what) id h =
     (near-after viewer o at entry id ∙ near_at-stays at id (public_of o id).meeting (near_some viewer entry) (near_in viewer (meeting_at o id)) (stays (near_in viewer (meeting_at o id))))
 party-unseen viewer o party now other id h = refl
 
--- nothing is shown of a call of the office where nothing is told of it
+-- nothing is shown of a call of the office where nothing is shown of its request
 indefinite : (viewed : Option ShownRequest) (after : List ℕ → PublicRecord) → option_map (λ t. Office t after) viewed ≡ None → viewed ≡ None
 indefinite None after h = refl
 indefinite (Some t) after h = absurd (cc)
@@ -121,7 +121,7 @@ whole-of : (b : Bool) (call : Call) (shown : Shown) → cond b (Some (Whole call
 whole-of true call shown h = record { passes = refl; is = h }
 whole-of false call shown h = absurd (cc)
 
--- what is shown of a call of the office is what is told, and the public records
+-- what is shown of a call of the office is what is shown of its request, and the public records
 record IsViewed (viewed : Option ShownRequest) (after : List ℕ → PublicRecord) (shown : Shown) : Type 0 where
   what : ShownRequest
   viewed_is : viewed ≡ Some what
@@ -131,7 +131,7 @@ viewed-of : (viewed : Option ShownRequest) (after : List ℕ → PublicRecord) (
 viewed-of None after shown h = absurd (cc)
 viewed-of (Some t) after shown h = record { what = t; viewed_is = refl; is = h }
 
--- what is told, the public records, and whether a call is shown
+-- what is shown of a request, the public records, and whether a call is shown
 abbrev viewed_in : ShownRequest → Option Shown → ShownRequest
 viewed_in viewed (Some (Office found after)) = found
 viewed_in viewed other = viewed

@@ -260,9 +260,9 @@ near-presence viewer o at now who =
               ∙ (λ i. record near { presences = marked viewer m.meeting m.presences who false fresh i })))
         ]) refl
 
--- ---- what is told
+-- ---- what is shown
 
--- what is near after a call of the office, by what is told of it
+-- what is near after a call of the office, by what is shown of it
 abbrev pub near_shown : Option ShownRequest → List ℕ → Option Meeting → Near → Near
 near_shown None id meeting n = n
 near_shown (Some Public) id meeting n = n
@@ -282,7 +282,7 @@ by-name viewer o at id f g here =
       | false ↦ λ other. near-elsewhere viewer o at id f other
     ]) refl
 
--- a presence is told where it is the viewer's
+-- a presence is shown where it is the viewer's
 viewed-presence : (viewer : Viewer) (at id : List ℕ) (meeting : Option Meeting) (who : List ℕ) (n : Near)
     → cond (same_name at id) (near_by meeting (near_marked viewer who) n) n ≡ near_shown (cond (same_name who viewer.party) (Some (Present at)) None) id meeting n
 viewed-presence viewer at id meeting who n =
@@ -323,7 +323,7 @@ near-office viewer o now (asked.Office at (Declare resolution)) id =
     (λ m. unseen-change (near_in viewer) o at id (SetPoll resolution (poll.Declared (declaration_of m o.closed now resolution).tally)) (λ x. refl))
 near-office viewer o now (asked.Party at what) id = refl
 
--- ---- what is not told
+-- ---- what is not shown
 
 -- is not public
 pub public-office : (viewer : Viewer) (o : OfficeLists) (now : ℕ) (request : Request) (id : List ℕ) → shown_request viewer now request ≡ None

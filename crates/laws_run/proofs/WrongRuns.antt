@@ -75,7 +75,7 @@ turnout_apart = record {
   apart = λ h. (let returned : 0 ≡ 1 = ap number_shown h in absurd (omega arith));
 }
 
--- the votes of all but the member, which the law of secrecy lets it not be told of
+-- the votes of all but the member, of which the law of secrecy shows it nothing
 abbrev votes_of_others : Secret
 votes_of_others = record { voters = all_but a_member; meeting = a_meeting; resolution = 1 }
 

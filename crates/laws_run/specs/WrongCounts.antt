@@ -40,13 +40,13 @@ OfficeShowing = Option MeetingLists → OfficeRequest → Answer Change → Answ
 
 -- requests of the office in meetings are answered so
 abbrev pub answer_shown : OfficeShowing → OfficeLists → Call → Request → Answer Change
-answer_shown telling office call (asked.Office meeting what) =
-    telling (meeting_at office meeting) what (decided office call)
-answer_shown telling office call request = decided office call
+answer_shown showing office call (asked.Office meeting what) =
+    showing (meeting_at office meeting) what (decided office call)
+answer_shown showing office call request = decided office call
 
 -- and all other calls as by the desk
 abbrev pub deciding_shown : OfficeShowing → Deciding
-deciding_shown telling office call = answer_shown telling office call call.request
+deciding_shown showing office call = answer_shown showing office call call.request
 
 -- ---- the turnout
 

@@ -1,5 +1,5 @@
 //! Laws of whole lists of calls: what others do, and is not shown to a party, changes no reply to
-//! it, and votes are told to nobody before they are declared.
+//! it, and votes are shown to nobody before they are declared.
 #![tactic(auto)]
 
 mod votes;

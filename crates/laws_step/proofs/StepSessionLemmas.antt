@@ -26,7 +26,7 @@ module _ (meeting : Meeting) (closed : List ℕ) (now : ℕ) (governed : Cutoffs
   abbrev pub in_session : ℕ → SessionGoverned
   in_session number = record { acts = governed (cutoffs_of meeting (Acts number) closed now); votes = governed (cutoffs_of meeting (Votes number) closed now) }
 
-  -- what is told of a session that is looked up
+  -- what is shown of a session that is looked up
   abbrev shown_of : (SessionGoverned → List Places) → Option SessionGoverned → List Places
   shown_of part found = option_map_or part (option_or found (Some (in_session 1))) []
 

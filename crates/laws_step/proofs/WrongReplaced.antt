@@ -1,4 +1,4 @@
--- What is wrong with wrong tellings of what is left is caught.
+-- Views that show more than what is left are caught.
 use Rattle.std.proofs.Common.{◌≡◌, ℕ, true, List, [], ◌∷◌, refl, ap, sym, ◌∙◌, arith}
 use Rattle.std.specs.Prelude.{nat_le, Option, Some, None}
 use Rattle.std.specs.List.{slice_index_or}
@@ -14,7 +14,7 @@ use Rattle.laws_step.specs.OwnThings.{OwnThingsFunction}
 use Rattle.laws_step.specs.Replaced.{IgnoresNamesAndPence, DependsOnWhatIsLeft, all_cutoffs}
 use Rattle.laws_step.specs.WrongReplaced.{ShowsMoreThanIsLeft, a_proxy, sample_appointment, number_shown, places_shown, proxy_shown, replaced_by_one_else, replaced_once, replaced_over_more, replaced_twice, replaced_under_another_name, row_shown, shown_with}
 
--- a number of the first appointment that is told
+-- a number of the first appointment that is shown
 abbrev of_first : (Received → ℕ) → List Received → ℕ
 of_first number [] = 0
 of_first number (known ∷ all) = number known
@@ -110,9 +110,9 @@ row_more = record {
 }
 
 -- what tells two such meetings apart breaks the law
-pub caught_by : (telling : OwnThingsFunction) (one other : MeetingLists) → ShowsMoreThanIsLeft telling one other a_proxy → DependsOnWhatIsLeft telling → ⊥
-caught_by telling one other more law = more.apart (law one other [] a_proxy 0 more.first more.second more.left)
+pub caught_by : (view : OwnThingsFunction) (one other : MeetingLists) → ShowsMoreThanIsLeft view one other a_proxy → DependsOnWhatIsLeft view → ⊥
+caught_by view one other more law = more.apart (law one other [] a_proxy 0 more.first more.second more.left)
 
--- a name told breaks the law of names and pence
+-- a name shown breaks the law of names and pence
 pub name_caught : IgnoresNamesAndPence row_shown → ⊥
 name_caught law = row_more.apart (law replaced_once replaced_under_another_name.register [] a_proxy 0 row_more.first row_more.second refl refl)

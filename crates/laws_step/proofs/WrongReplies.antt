@@ -1,4 +1,4 @@
--- What is wrong with wrong tellings of own things is caught.
+-- Views that show more than own things are caught.
 use Rattle.std.proofs.Common.{◌≡◌, [], ◌∷◌, length, refl, ap, arith}
 use Rattle.desk_words.specs.declared.office.MeetingLists.{MeetingLists}
 use Rattle.party_views.specs.OwnCasts.{all_casts}
@@ -32,5 +32,5 @@ demands_more = record {
 }
 
 -- what tells two such meetings apart breaks the law
-pub caught_by : (telling : OwnThingsFunction) (one other : MeetingLists) → ShowsMore telling one other a_member → DependsOnOwnAlone telling → ⊥
-caught_by telling one other more law = more.apart (law one other [] a_member 0 more.agree)
+pub caught_by : (view : OwnThingsFunction) (one other : MeetingLists) → ShowsMore view one other a_member → DependsOnOwnAlone view → ⊥
+caught_by view one other more law = more.apart (law one other [] a_member 0 more.agree)

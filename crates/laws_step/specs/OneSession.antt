@@ -168,7 +168,7 @@ OneSessionIsOneMeeting =
 
 -- ---- the notice
 
--- what is told of the meeting's time, and until when an appointment counts, is one
+-- what the notice says of the meeting's time, and until when an appointment counts, is one
 pub record IsNoticedAsOne (meeting : Meeting) (polls : List Poll) (closed : List Day) (now : Moment)
     : Type 0 where
   pub first : (notice_of meeting polls closed now).first

@@ -67,10 +67,10 @@ what_concerns party m = record m {
 
 -- it shows own things alone: two meetings that agree in what concerns a party are one to it
 abbrev pub DependsOnOwnAlone : OwnThingsFunction → Type 0
-DependsOnOwnAlone telling =
+DependsOnOwnAlone view =
     (one other : MeetingLists) (closed : List Day) (party : Party) (now : Moment)
     → what_concerns party one ≡ what_concerns party other
-    → telling one closed party now ≡ telling other closed party now
+    → view one closed party now ≡ view other closed party now
 
 -- the own things of a party in an office are those in the meeting of the name, and none where there
 -- is no such meeting

@@ -76,18 +76,18 @@ pub record LeaveTheSame (closed : List Day) (party : Party) (now : Moment)
 
 -- it shows a party what is left to it: two meetings that leave the same to a party are one to it
 abbrev pub DependsOnWhatIsLeft : OwnThingsFunction → Type 0
-DependsOnWhatIsLeft telling =
+DependsOnWhatIsLeft view =
     (one other : MeetingLists) (closed : List Day) (party : Party) (now : Moment)
     → is_meeting one ≡ true → is_meeting other ≡ true
     → LeaveTheSame closed party now one other
-    → telling one closed party now ≡ telling other closed party now
+    → view one closed party now ≡ view other closed party now
 
 -- it shows nothing of the names and pence in the rows of others: two meetings are one to a party
 -- whose registers differ in these alone, with its own row the same (section 113)
 abbrev pub IgnoresNamesAndPence : OwnThingsFunction → Type 0
-IgnoresNamesAndPence telling =
+IgnoresNamesAndPence view =
     (m : MeetingLists) (rows : List RegisterRow) (closed : List Day) (party : Party) (now : Moment)
     → is_meeting m ≡ true → is_meeting (record m { register = rows }) ≡ true
     → map without_name_and_pence m.register ≡ map without_name_and_pence rows
     → row_of m.register party ≡ row_of rows party
-    → telling m closed party now ≡ telling (record m { register = rows }) closed party now
+    → view m closed party now ≡ view (record m { register = rows }) closed party now

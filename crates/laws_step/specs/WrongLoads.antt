@@ -39,13 +39,13 @@ loads_anew office call =
     let right = decided office call in where_held
     (record { reply = reply.Loaded; change = change_by call.request }) right right.reply
 
--- what is held is told to be the same, and is written once more
+-- the reply to what is held is `Same`, and it is written once more
 abbrev pub writes_anew : Deciding
 writes_anew office call =
     let right = decided office call in where_held
     (record { reply = reply.Same; change = change_by call.request }) right right.reply
 
--- what is loaded is told to be, and is not written
+-- the reply to what is loaded is `Loaded`, and it is not written
 abbrev pub shows_alone : Deciding
 shows_alone office call = reply_unchanged (decided office call).reply
 

@@ -1,5 +1,5 @@
--- Wrong tellings of own things, and for each two meetings that differ in another member's record
--- alone, and that it tells apart.
+-- Counterexamples: views of own things that leak, and for each two meetings that it distinguishes
+-- and that differ in another member's record alone.
 use Rattle.std.specs.Prelude.{◌≡◌, IsTrue, [], ◌∷◌, map}
 use Rattle.desk_words.specs.Office.{is_meeting}
 use Rattle.desk_words.specs.ViewTypes.{Party}
@@ -11,7 +11,7 @@ use Rattle.party_views.specs.declared.own_rows.OwnCasts.TheVariants.{All}
 use Rattle.laws_step.specs.OwnThings.{OwnThingsFunction, what_concerns}
 use Rattle.laws_step.specs.WrongAnswers.{another, meeting_with_casts}
 
--- everybody's votes are told as the party's
+-- everybody's votes are shown as the party's
 abbrev pub votes_of_all : OwnThingsFunction
 votes_of_all m closed party now = record (own_in m closed party now) { casts = All m.casts }
 
@@ -25,8 +25,8 @@ presence_of_any m closed party now = record (own_in m closed party now) {
 abbrev pub as_demanded_by : Party → DemandMark → DemandMark
 as_demanded_by party demand = record demand { party = party }
 
--- everybody's demands are told as though the party had made them: it learns how many there are, and
--- nobody's name
+-- everybody's demands are shown as though the party had made them: it learns how many there are,
+-- and nobody's name
 abbrev pub demands_of_all : OwnThingsFunction
 demands_of_all m closed party now = record (own_in m closed party now) {
   demands = map (as_demanded_by party) m.demands;
@@ -48,10 +48,10 @@ meeting_with_demand = record quiet_meeting {
   demands = record { session = 1; resolution = 1; party = another; moment = 0 } ∷ [];
 }
 
--- two meetings that agree in what concerns a party are told apart by what it is told as its own
-pub record ShowsMore (telling : OwnThingsFunction) (one other : MeetingLists) (party : Party)
+-- a view distinguishes two meetings that agree in what concerns a party
+pub record ShowsMore (view : OwnThingsFunction) (one other : MeetingLists) (party : Party)
     : Type 0 where
   pub first : IsTrue (is_meeting one)
   pub second : IsTrue (is_meeting other)
   pub agree : what_concerns party one ≡ what_concerns party other
-  pub apart : telling one [] party 0 ≡ telling other [] party 0 → ⊥
+  pub apart : view one [] party 0 ≡ view other [] party 0 → ⊥

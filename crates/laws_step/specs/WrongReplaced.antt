@@ -1,5 +1,5 @@
--- Wrong tellings of what is left to a proxy, and for each two meetings that leave the same to the
--- proxy, and that it tells apart.
+-- Counterexamples: views of what is left to a proxy that leak, and for each two meetings that it
+-- distinguishes and that leave the same to the proxy.
 use Rattle.std.specs.Prelude.{◌≡◌, ◌&&◌, IsTrue, List, [], ◌∷◌, map, filter, find, reverse, Option, codes, option_and_then}
 use Rattle.std.specs.Option.{option_map_or}
 use Rattle.vocabulary.specs.Names.{in_places}
@@ -32,7 +32,7 @@ abbrev pub Leak : Type 0
 Leak = Appointment → Received → Received
 
 -- own things, where of each appointment that names the party something of the one that replaced it
--- is told
+-- is shown
 abbrev pub shown_with : Leak → OwnThingsFunction
 shown_with leak m closed party now = record (own_in m closed party now) {
   received = map
@@ -42,7 +42,7 @@ shown_with leak m closed party now = record (own_in m closed party now) {
       (filter (names party) m.appointments);
 }
 
--- its number is told, as though it were a moment
+-- its number is shown, as though it were a moment
 abbrev pub number_shown : Leak
 number_shown replaced_by known = record known { moment = replaced_by.number }
 
@@ -50,11 +50,11 @@ number_shown replaced_by known = record known { moment = replaced_by.number }
 abbrev pub proxy_shown : Leak
 proxy_shown replaced_by known = record known { member = replaced_by.proxy }
 
--- its places are told, as though they were the proxy's own
+-- its places are shown, as though they were the proxy's own
 abbrev pub places_shown : Leak
 places_shown replaced_by known = record known { range = replaced_by.range }
 
--- the row of the first member who named the party is told as the party's own
+-- the row of the first member who named the party is shown as the party's own
 abbrev pub row_shown : OwnThingsFunction
 row_shown m closed party now = record (own_in m closed party now) {
   row = option_and_then (λ (a : Appointment). row_of m.register a.member)
@@ -105,11 +105,11 @@ replaced_under_another_name = record replaced_once {
   register = record (one_share a_member) { name = codes "O"; paid = 1 } ∷ one_share another ∷ [];
 }
 
--- two meetings that leave the same to a party are told apart by what it is told as its own
-pub record ShowsMoreThanIsLeft (telling : OwnThingsFunction) (one other : MeetingLists)
+-- a view distinguishes two meetings that leave the same to a party
+pub record ShowsMoreThanIsLeft (view : OwnThingsFunction) (one other : MeetingLists)
     (party : Party)
     : Type 0 where
   pub first : IsTrue (is_meeting one)
   pub second : IsTrue (is_meeting other)
   pub left : LeaveTheSame [] party 0 one other
-  pub apart : telling one [] party 0 ≡ telling other [] party 0 → ⊥
+  pub apart : view one [] party 0 ≡ view other [] party 0 → ⊥

@@ -1,5 +1,5 @@
 //! Laws of the office: what a party may learn, how calls are refused and files loaded, and that
-//! what is asked and told in a meeting agrees with its rules.
+//! what is asked and replied in a meeting agrees with its rules.
 #![tactic(auto)]
 
 mod loads;

@@ -15,9 +15,9 @@ pub fn loads_act_once()
     ensures run { RunsAsOfOne }
 {}
 
-/// These laws can fail: where what is held is loaded once more, and where it is told to be the same
-/// and written once more, a closed day that comes twice in turn acts twice; where it is told to be
-/// loaded and not written, it acts never.
+/// These laws can fail: where what is held is loaded once more, and where the reply is `Same` and
+/// it is written once more, a closed day that comes twice in turn acts twice; where the reply is
+/// `Loaded` and nothing is written, it acts never.
 pub fn wrong_loads_are_caught()
     ensures loaded { ActsTwice loads_anew empty_office a_load 0 }
     ensures written { ActsTwice writes_anew empty_office a_load 0 }

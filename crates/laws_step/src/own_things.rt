@@ -18,7 +18,7 @@ pub fn own_things_are_ones_own()
 {}
 
 /// That law can fail: everybody's votes, anybody's presence and the number of everybody's demands,
-/// told to a member as its own, each tell apart two meetings that differ in a record of another
+/// shown to a member as its own, each distinguish two meetings that differ in a record of another
 /// member alone.
 pub fn others_things_are_caught()
     ensures votes { ShowsMore votes_of_all quiet_meeting (meeting_with_casts (vote_of_another ∷ []))
@@ -49,7 +49,7 @@ pub fn proxies_learn_what_is_left()
 {}
 
 /// That law can fail: the number, the proxy and the places of the appointment that replaced a
-/// proxy's own, and the member's row, each told to the proxy as its own, tell apart two meetings
+/// proxy's own, and the member's row, each shown to the proxy as its own, distinguish two meetings
 /// that leave it the same, and differ in what replaced its appointment, or in that row's name and
 /// pence.
 pub fn replacing_appointments_are_caught()

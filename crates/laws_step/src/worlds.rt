@@ -13,7 +13,7 @@ pub fn two_worlds()
 {}
 
 /// Every party named in a reply to a party is that party or stands in its own things. It follows
-/// from `two_worlds` and says less: a count names nobody, so that a reply which told how the votes
+/// from `two_worlds` and says less: a count names nobody, so that a reply which says how the votes
 /// stand would keep this law, and breaks only `two_worlds` (`running_total_is_caught`).
 pub fn names()
     ensures names { NamesOwn party_answer }

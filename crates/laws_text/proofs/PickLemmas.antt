@@ -57,7 +57,7 @@ pick-nothing test (call ∷ calls) = refl
 abbrev pub wanted_call : Secret → (Bool → Bool) → Call → Bool
 wanted_call secret wanted call = is_the_office call.caller && wanted (declares_in secret.meeting secret.resolution call.request)
 
--- the replies to these, seen so that no result is told where one is left out, are those at their places
+-- the replies to these, without the result where one is left out, are those at their places
 pub office-picked : (secret : Secret) (wanted : Bool → Bool) (seen : Reply → Reply) → ((asks : Bool) (exchanged : Reply) → wanted asks ≡ true → seen exchanged ≡ cond asks (without_result exchanged) exchanged)
     → (calls : List Call) (replies : List Reply)
     → map seen (pick (wanted_call secret wanted) calls replies) ≡ pick (wanted_call secret wanted) (calls_of_office calls) (replies_to_office secret calls replies)

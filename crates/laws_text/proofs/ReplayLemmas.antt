@@ -52,7 +52,7 @@ replays_make office (line ∷ lines) (f ∷ failed) =
       | false ↦ ap (with_head (call_by_line f line)) (replays_make (unless_failed f office line).office lines failed) ∙ asked-before f line (calls_of lines failed)
     ]
 
--- what is told of what a line asked, where what follows tells the run
+-- the text of the reply to what a line asked, where the texts that follow are those of the run
 exchanged-first : (office : OfficeLists) (asked : Result Call Refusal) (lines : List (List ℕ)) (failed : List (Option Failure))
     → AreTextsOfRun reply_line (answered_call office asked).office (exchanges_of (answered_call office asked).office lines failed)
     → AreTextsOfRun reply_line office (record { made = call_asked asked; text = (answered_call office asked).text } ∷ exchanges_of (answered_call office asked).office lines failed)

@@ -20,7 +20,7 @@ use Rattle.laws_text.specs.TextSecrecy.{AreSameButResult, TextsAreIsolated, Text
 use Rattle.laws_text.proofs.PickLemmas.{calls_of_office, office-picked, party-picked, pick, pick-map, texts-picked, wanted_call}
 use Rattle.laws_text.proofs.TextResultLemmas.{each-but-result}
 
--- the replies in a run that is told
+-- the replies in a run of which texts are given
 abbrev replies_in : {text_of : Reply → List ℕ} → RunTexts text_of → List Reply
 replies_in run = (run_by decided run.office (calls_of_texts run)).replies
 
@@ -68,7 +68,7 @@ office-preserved secret calls =
     let stays = λ (call : Call). not (is_secret_call secret call) in
     filter-among office stays calls (all-of (λ call. implies (office call) (stays call)) calls (λ call. implied (office call) (stays call) (office-open secret call)))
 
--- the replies to the office that are wanted, seen so that no result is told where one is left out, are the same in two runs that tell the same
+-- the replies to the office that are wanted, without the result where one is left out, are the same in two runs with the same replies
 wanted-same : {text_of : Reply → List ℕ} (secret : Secret) (wanted : Bool → Bool) (seen : Reply → Reply) → ((asks : Bool) (exchanged : Reply) → wanted asks ≡ true → seen exchanged ≡ cond asks (without_result exchanged) exchanged)
     → (one other : RunTexts text_of) → calls_of_office (calls_of_texts one) ≡ calls_of_office (calls_of_texts other)
     → replies_to_office secret (calls_of_texts one) (replies_in one) ≡ replies_to_office secret (calls_of_texts other) (replies_in other)

@@ -167,7 +167,7 @@ module _ {O : Type 0} (g : office.Ghosts O) where
 -- ---- by perform
 
 module _ {O : Type 0} (g : office.Ghosts O) where
-  -- a call that was made and whose text is that of its reply, or that failed, is told so
+  -- a call that was made and whose text is that of its reply, or that failed, is answered so
   pub call_exchanged : (call : Call) (result : Result (Vec ℕ Global) Failure) (old new : O)
       → HoldsOfOffice g.is_reliable g.stands old new (λ before. IfOk result (λ (text : Vec ℕ Global). text.items ≡ reply_bytes (decided before call).reply))
       → LeavesOffice g (made_by result call) old new → IsAnsweredStored g as_json (asked_by_call call result) old new

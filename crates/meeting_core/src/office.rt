@@ -134,7 +134,7 @@ pub fn decide_in_meeting(
 }
 
 /// What is decided of the call of a meeting, from whether a meeting has that name and how many
-/// meetings there are: it is so in every office of which this is told, and what it changes leaves
+/// meetings there are: it is so in every office of which this is true, and what it changes leaves
 /// the lists of an office. The error is want of memory.
 pub fn decide_call(
     alloc: Global,

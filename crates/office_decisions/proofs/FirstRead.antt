@@ -1,4 +1,4 @@
--- What is asked of a meeting first is told by what is read of it first.
+-- What is asked of a meeting first is known from what is read of it first.
 use Rattle.std.proofs.Common.{◌≡◌, ℕ, not, List, [], ◌∷◌, length, Option, refl}
 use Rattle.std.specs.Prelude.{nat_lt, is_none, is_some}
 use Rattle.desk_words.specs.Office.{is_resolution}
@@ -42,7 +42,7 @@ ordering-read m now new = λ i. ordering_by m.meeting now new (none-read m.meeti
 pub ordering-counted : (m : MeetingLists) (now : ℕ) (new : NewPoll) → ordering_cases (record m { meeting = counted m.meeting; presences = []; polls = polls_on new.resolution m.polls; casts = [] }) now new ≡ ordering_cases m now new
 ordering-counted m now new = λ i. ordering_by m.meeting now new (counted-has m.meeting new.resolution i) (poll_preserved new.resolution m.polls i)
 
--- the first conditions are told by what is read first
+-- the first conditions are known from what is read first
 pub first-read : (asked : OfficeRequest) (now : ℕ) (m : MeetingLists) → early_cases (first_read asked m) now asked ≡ early_cases m now asked
 first-read (Order new) now m = ordering-read m now new
 first-read (Start resolution) now m = λ i.

@@ -37,7 +37,7 @@ use Rattle.office_decisions.specs.ListsRead.{days_read, lists_read, poll_alone, 
 use Rattle.office_decisions.proofs.FirstRead.{first-read, ordering-counted}
 use Rattle.office_decisions.proofs.OnResolution.{casts_preserved, poll_preserved, polls_preserved}
 
--- whether one that is kept passes is told from those that are kept
+-- whether one that is kept passes is known from those that are kept
 any_passing : {X : Type 0} (keeps passes : X → Bool) (xs : List X) → list_any (λ x. keeps x && passes x) (filter keeps xs) ≡ list_any (λ x. keeps x && passes x) xs
 any_passing keeps passes [] = refl
 any_passing keeps passes (x ∷ xs) = go (keeps x) refl (any_passing keeps passes xs)

@@ -192,7 +192,7 @@ abbrev pub declaration_of : MeetingLists → List Day → Moment → Number → 
 declaration_of m closed now resolution =
     result_on (slice_get m.meeting.resolutions (resolution - 1)) (tally_in m closed now resolution)
 
--- the result is told, and the count is kept (sections 282 to 284)
+-- the reply is the result, and the count is kept (sections 282 to 284)
 abbrev pub declared_answer : Number → Declaration → Answer MeetingChange
 declared_answer resolution declared = record {
   reply = reply.Declared declared;

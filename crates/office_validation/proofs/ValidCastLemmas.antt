@@ -99,8 +99,8 @@ not-false false h = absurd (cc)
 -- a vote is not the first of its voter: an earlier one is
 pub few-earlier : (polls : List Poll) (casts items : List CastMark) (i : ℕ) (c : CastMark) (first : Bool) → items ≡ casts → few_each polls items (take i items) ≡ true
     → first ≡ not (list_any (λ (d : CastMark). same_name d.voter c.voter) (take i casts)) → first ≡ false → few_by polls casts c.voter ≡ true
-few-earlier polls casts items i c first same few told later =
-    let before = not-false (list_any (λ (d : CastMark). same_name d.voter c.voter) (take i casts)) (sym told ∙ later) in
+few-earlier polls casts items i c first same few is later =
+    let before = not-false (list_any (λ (d : CastMark). same_name d.voter c.voter) (take i casts)) (sym is ∙ later) in
     ap (λ l. few_by polls l c.voter) (sym same) ∙ few_before polls items (take i items) c.voter few (ap (λ l. list_any (λ (d : CastMark). same_name d.voter c.voter) (take i l)) same ∙ before)
 
 pub few-more : (polls : List Poll) (casts items : List CastMark) (i : ℕ) (c : CastMark) → items ≡ casts → i < length items → c ≡ get_or items i c → few_each polls items (take i items) ≡ true

@@ -5,7 +5,7 @@ ghost use Rattle.std.specs.Ordering.{is_eq};
 
 use keyed_seq::{Filed, FiledBy};
 
-/// An item that is told by a mark from the others of its first key.
+/// An item that a mark distinguishes from the others of its first key.
 pub(crate) trait Marked: FiledBy {
     /// What marks items.
     type Mark: Ord + Copy;

@@ -1,4 +1,4 @@
--- What is made of what was told, and how many places there are.
+-- What is made of what was returned, and how many places there are.
 use Rattle.std.proofs.Common.{◌≡◌, suc, Bool, true, false, cond, List, [], ◌∷◌, length, map, filter, refl, ap, ◌∙◌, Result, Ok, Err, IfOk}
 use Rattle.std.specs.Prelude.{MatchResult}
 use Rattle.std.proofs.lemmas.List.{length-map}

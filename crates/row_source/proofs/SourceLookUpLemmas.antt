@@ -9,7 +9,7 @@ handed_on (Ok x) e none = absurd none
 handed_on (Err y) e same = ap Err same
 
 module _ {S E : Type 0} (trusted : S → Type 0) (shows : S → Option MeetingLists → Type 0) (keeps leaves : S → S → Type 0) (may_fail : E → Type 0) where
-  -- what is made of what was told last
+  -- what is made of what was looked up last
   pub holds_so : {X Y : Type 0} (a b : S) (x : X) (y : Y) (P : Option MeetingLists → X → Type 0) (Q : Option MeetingLists → Y → Type 0)
       → IsTrueLookUp trusted shows keeps leaves may_fail a b (Ok x) P → ((found : Option MeetingLists) → P found x → Q found y) → IsTrueLookUp trusted shows keeps leaves may_fail a b (Ok y) Q
   holds_so a b x y P Q one next = record { holds = λ trust found shown. next found (one.holds trust found shown); preserved = one.preserved; left = one.left }
@@ -28,7 +28,7 @@ module _ {S E : Type 0} (trusted : S → Type 0) (shows : S → Option MeetingLi
 
   module _ (still_shows : (a b : S) → keeps a b → trusted b → (found : Option MeetingLists) → shows a found → shows b found) (was_trusted : (a b : S) → leaves a b → trusted b → trusted a)
       (keeps_then : (a b c : S) → keeps a b → keeps b c → keeps a c) (leaves_then : (a b c : S) → keeps a b → leaves b c → leaves a c) where
-    -- what was told first stays known
+    -- what was looked up first stays known
     pub holds_both : {X Y : Type 0} (a b c : S) (x : X) (y : Y) (P : Option MeetingLists → X → Type 0) (Q : Option MeetingLists → Y → Type 0)
         → IsTrueLookUp trusted shows keeps leaves may_fail a b (Ok x) P → IsTrueLookUp trusted shows keeps leaves may_fail b c (Ok y) Q → IsTrueLookUp trusted shows keeps leaves may_fail a c (Ok y) (λ found z. P found x × Q found z)
     holds_both a b c x y P Q one two = record {

@@ -1,4 +1,4 @@
--- A party's rows, from what was told of each list.
+-- A party's rows, from what was looked up of each list.
 use Rattle.std.proofs.Common.{◌≡◌, ◌+◌, ◌<◌, ℕ, true, false, cond, List, [], ◌∷◌, ◌++◌, length, get_or, map, take, filter, Option, Some, None, sym, ap, ◌∙◌, refl}
 use Rattle.std.proofs.lemmas.List.{map-append, take_more}
 use Rattle.vocabulary.specs.Names.{same_name}

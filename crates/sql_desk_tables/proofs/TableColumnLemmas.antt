@@ -123,7 +123,7 @@ asks_stop {e = e} g a b texts more r is one = subst (λ q. AsksFor g a b (texts 
   crash = one.crash;
   same = one.same;
   stand = λ _. tt;
-  missed = λ clean told.
+  missed = λ clean is.
       let same : e ≡ Missing = cc in
       let bad = one.missed clean (ap (λ (f : ColumnError). Err f) same) in
       (bad.0, λ are. bad.1 (front _ texts more are));

@@ -1,17 +1,8 @@
 pub mod AssembledListLemmas
 pub mod AssembledOrderLemmas
-pub mod CastPartLemmas
 pub mod CountedRecordLemmas
 pub mod FoundRecordLemmas
-pub mod JudgedLemmas
-pub mod MeetingPartLemmas
-pub mod MeetingReadLemmas
-pub mod MeetingRowLemmas
 pub mod NamedMeetingLemmas
-pub mod OrderedMeetingLemmas
-pub mod PassingLemmas
 pub mod PublicRecordLemmas
 pub mod ReadingLemmas
 pub mod StoredOfficeLemmas
-pub mod StoredRowLemmas
-pub mod VoteLemmas

@@ -1,9 +1,5 @@
-pub mod Judging
 pub mod LoadResults
-pub mod MeetingReading
 pub mod MeetingRecords
 pub mod OwnLists
-pub mod StoredRows
 pub mod TableLookUps
-pub mod Votes
 pub mod WholeReading

@@ -21,7 +21,7 @@ use seq::{ascend, into_order};
 use sql_rows::{MeetingRow, Numbered};
 use std::alloc::{AllocError, Global};
 
-/// The keys in the order of callers.
+/// The keys in the order of callers. The fault is `NoOffice` only where they are no such list.
 pub fn key_rows(rows: Listing<KeyRow>) -> Result<KeyRows, LoadError>
     ensures { ReadAgrees is_key_list result (Some (sort_by caller_before rows)) }
 {
@@ -46,8 +46,8 @@ fn days_in_order(days: Vec<Day>) -> Option<Vec<Day>>
     Some(days)
 }
 
-/// The closed days in order.
-pub(crate) fn day_list(days: Listing<Day>) -> Result<DayList, LoadError>
+/// The closed days in order (section 1173). The fault is `NoOffice` only where they are no such list.
+pub fn day_list(days: Listing<Day>) -> Result<DayList, LoadError>
     ensures { ReadAgrees is_day_list result (Some (sort_by day_before days)) }
 {
     let Some(days) = days_in_order(days.into_vec()) else {
@@ -59,7 +59,8 @@ pub(crate) fn day_list(days: Listing<Day>) -> Result<DayList, LoadError>
     }
 }
 
-/// The rows of a register in the order of members; there may be none.
+/// The rows of a register in the order of members; there may be none. The fault is `NoOffice` only
+/// where they are no register.
 pub fn register_rows(rows: Listing<RegisterRow>) -> Result<Listing<RegisterRow>, LoadError>
     ensures { ReadAgrees are_rows result (Some (sort_by member_before rows)) }
 {
@@ -73,7 +74,7 @@ pub fn register_rows(rows: Listing<RegisterRow>) -> Result<Listing<RegisterRow>,
 }
 
 /// The polls in the order of resolutions. The fault is `NoOffice` only where a poll stands twice.
-pub(crate) fn poll_list(polls: Listing<Poll>) -> Result<Listing<Poll>, LoadError>
+pub fn poll_list(polls: Listing<Poll>) -> Result<Listing<Poll>, LoadError>
     ensures { ReadAgrees (ascends_by poll_before) result (Some (sort_by poll_before polls)) }
 {
     let mut polls = polls.into_vec();
@@ -148,8 +149,9 @@ fn numbered_list<T: Drop>(
     Ok(Listing::from_vec(items))
 }
 
-/// The further sessions of a meeting, in the order of their numbers, which are 2, 3, ..
-pub(crate) fn session_list(
+/// The further sessions of a meeting, in the order of their numbers, which are 2, 3, .. The fault is
+/// `NoOffice` only where they are otherwise numbered, or too many.
+pub fn session_list(
     alloc: Global,
     rows: Listing<Numbered<Session>>,
 ) -> Result<Listing<Session>, LoadError>
@@ -158,8 +160,9 @@ pub(crate) fn session_list(
     numbered_list(alloc, rows, 2, MOST_SESSIONS - 1)
 }
 
-/// The resolutions of a meeting, in the order of their numbers, which are 1, 2, ..
-pub(crate) fn resolution_list(
+/// The resolutions of a meeting, in the order of their numbers, which are 1, 2, .. The fault is
+/// `NoOffice` only where they are otherwise numbered, none, or too many.
+pub fn resolution_list(
     alloc: Global,
     rows: Listing<Numbered<Resolution>>,
 ) -> Result<Resolutions, LoadError>
@@ -173,11 +176,7 @@ pub(crate) fn resolution_list(
 }
 
 /// A meeting, with its further sessions and its resolutions.
-pub(crate) fn whole_meeting(
-    row: MeetingRow,
-    later: Listing<Session>,
-    resolutions: Resolutions,
-) -> Meeting
+pub fn whole_meeting(row: MeetingRow, later: Listing<Session>, resolutions: Resolutions) -> Meeting
     ensures { result ≡ whole_meeting row later resolutions }
 {
     Meeting {

@@ -24,7 +24,7 @@ use crate::fault::OpenFault;
 use crate::moving::open_moved;
 use crate::version::{KnownVersion, judge_version};
 use sql_desk_tables::columns;
-use sql_load::judge_office;
+use sql_office::judge_office;
 use sqlite::{Alter, Connection, Error, ErrorCode, Transaction};
 use std::alloc::Global;
 

@@ -15,8 +15,8 @@ RowErrAgrees Memory meaning = Unit {0}
 abbrev pub RowAgrees : {X Y : Type 0} → (X → Y) → Result X RowError → Option Y → Type 0
 RowAgrees seen read meaning = Agrees Some RowErrAgrees seen read meaning
 
--- what was returned, as contracts see it, is what is meant, and where that is nothing it is told as
--- unreadable; no memory is asked for
+-- what was returned, as contracts see it, is what is meant, and where that is nothing the fault is
+-- `Unreadable`; no memory is asked for
 abbrev pub RowAgreesExactly : {X Y : Type 0} → (X → Y) → Result X RowError → Option Y → Type 0
 RowAgreesExactly seen read meaning =
     Agrees Some (λ fault meaning. (fault ≡ Unreadable) × (meaning ≡ None)) seen read meaning

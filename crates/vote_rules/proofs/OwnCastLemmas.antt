@@ -22,7 +22,7 @@ on_it : (right own : Bool) (o : Option Way) → cond right (cond (right && own) 
 on_it true own o = refl
 on_it false own o = refl
 
--- what a voter cast last on a share is told from the votes on the resolution
+-- what a voter cast last on a share is known from the votes on the resolution
 pub own_casts : (casts : List CastMark) (resolution : ℕ) (share : Share) (capacity : Capacity) (voter : List ℕ) → last_cast (casts_on resolution casts) resolution share capacity voter ≡ last_cast casts resolution share capacity voter
 own_casts casts resolution share capacity voter =
     ap (find_map (way_cast resolution share capacity voter)) (reverse-filter (λ (mark : CastMark). mark.resolution == resolution) casts)

@@ -1,7 +1,7 @@
 use Rattle.std.proofs.Common.{refl}
 use Rattle.host_run.proofs.running.run.Goals as goal
 
--- what was read, done and told, one after the other
+-- what was read, done and reported, one after the other
 pub returns : goal.returns
 returns g c =
     record {

@@ -9,10 +9,10 @@ use Rattle.meeting_core.proofs.office.decide_call.Goals as goal
 
 pub returns-clause-decided : goal.returns-clause-decided
 returns-clause-decided c =
-    IfOk-weaker c.call_meeting.result _ _ (λ a is office now told. is ∙ (λ i. ruled_answer (ruling_of_call (told.named i) (told.held i) c.args.new.now))) c.call_meeting.ensures.answer
+    IfOk-weaker c.call_meeting.result _ _ (λ a is office now known. is ∙ (λ i. ruled_answer (ruling_of_call (known.named i) (known.held i) c.args.new.now))) c.call_meeting.ensures.answer
 
 pub returns-clause-valid : goal.returns-clause-valid
 returns-clause-valid c =
     both_ok c.call_meeting.result _ _ _
-    (λ a is limits office preserved told. decision_preserved office (desk_call 0 (CallMeeting c.args.new.now)) a (is ∙ (λ i. ruled_answer (ruling_of_call (told.named i) (told.held i) c.args.new.now))) limits preserved)
+    (λ a is limits office preserved known. decision_preserved office (desk_call 0 (CallMeeting c.args.new.now)) a (is ∙ (λ i. ruled_answer (ruling_of_call (known.named i) (known.held i) c.args.new.now))) limits preserved)
     c.call_meeting.ensures.answer c.call_meeting.ensures.limits

@@ -1,0 +1,4 @@
+pub mod Judging
+pub mod MeetingReading
+pub mod StoredRows
+pub mod Votes
