@@ -11,7 +11,7 @@ use Rattle.sql_load.specs.WholeReading.{IsReading}
 use Rattle.office_validation.specs.Validation.{office_in_order}
 use Rattle.sql_load.specs.TableLookUps.{HoldsOfStoredOffice, HoldsOrFails}
 use Rattle.desk_store.specs.TableReads.{HoldsOfTables, IsBookOf}
-use Rattle.sql_office.proofs.OrderedMeetingLemmas.{office_ordered}
+use Rattle.sql_open.proofs.OrderedMeetingLemmas.{office_ordered}
 
 pub mapped_ok : {X E D : Type 0} (Q : E → D → Type 0) (P : X → Type 0) (s : Result X E) (r : Result X D) → MatchResult s (λ x. r ≡ Ok x) (λ e. IsErrAnd r (Q e)) → IfOk s P → IfOk r P
 mapped_ok Q P (Ok x) r is h = subst (λ q. IfOk q P) (sym is) h

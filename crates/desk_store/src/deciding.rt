@@ -23,8 +23,9 @@ use meeting_core::{
 use row_source::no_own_rows;
 use sql_desk_tables::desk;
 use sql_load::{LoadError, OwnedRecord, read_public};
-use sql_load_meeting::{OfficeReads, read_closed, read_count, read_first, read_keys, read_rest};
-use sql_load_party::read_own_rows_for;
+use sql_load_needed::{
+    OfficeReads, read_closed, read_count, read_first, read_keys, read_own_rows_for, read_rest,
+};
 use sqlite::{Alter, Transaction};
 use std::alloc::{AllocError, Global};
 

@@ -24,9 +24,8 @@ use desk_words::{Failure, MeetingId, Moment, Party};
 use meeting_core::Book;
 use party_views::OwnView;
 use sql_load::LoadError;
-use sql_load_party::read_own;
-use sql_office::read_office;
-use sql_open::{CreateError, HandedBack, OpenFault};
+use sql_load_needed::read_own;
+use sql_open::{CreateError, HandedBack, OpenFault, read_office};
 use sqlite::{Alter, Connection, Transaction};
 use std::alloc::Global;
 

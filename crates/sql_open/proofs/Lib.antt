@@ -1,7 +1,12 @@
+pub mod CastPartLemmas
 pub mod CrashLemmas
 pub mod EmptyLemmas
 pub mod FaultLemmas
+pub mod JudgedLemmas
 pub mod MakingLemmas
+pub mod MeetingPartLemmas
+pub mod MeetingReadLemmas
+pub mod MeetingRowLemmas
 pub mod MigratedMeaningLemmas
 pub mod MigratedMovingLemmas
 pub mod OneSchema
@@ -10,6 +15,10 @@ pub mod OpenedFoundLemmas
 pub mod OpenedMoveLemmas
 pub mod OpenedPreservedLemmas
 pub mod OpeningLemmas
+pub mod OrderedMeetingLemmas
+pub mod PassingLemmas
 pub mod ReopeningLemmas
 pub mod RisingLemmas
+pub mod StoredRowLemmas
+pub mod VoteLemmas
 pub mod WholeLemmas

@@ -16,7 +16,7 @@ use Rattle.sql_desk_tables.specs.ColumnChecks.{HasColumnsOf}
 use Rattle.sql_open.specs.Crashes.{LeavesItself}
 use Rattle.sql_open.specs.Known.{IsMadeAs}
 use Rattle.sql_open.specs.OpeningByMigration.{HoldsMoved, IsMove, MayMove, MovesWhole}
-use Rattle.sql_office.specs.Judging.{HasOffice}
+use Rattle.sql_open.specs.Judging.{HasOffice}
 use Rattle.sql_open.specs.Opened.{StandsFor}
 use Rattle.sql_open.specs.Opening.{IsVerdict}
 use Rattle.sql_open.specs.Rising.{RowsRise}

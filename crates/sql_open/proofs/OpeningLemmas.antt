@@ -13,7 +13,7 @@ use Rattle.sql_model.specs.OfficeRecords.{office_in}
 use Rattle.sql_model.specs.Standing.{IsVersion, Stands}
 use Rattle.sql_load.specs.declared.fault.LoadError.{LoadError}
 use Rattle.sql_load.specs.declared.fault.LoadError.TheVariants as reading
-use Rattle.sql_office.specs.Judging.{IsJudged}
+use Rattle.sql_open.specs.Judging.{IsJudged}
 use Rattle.sql_open.proofs.OneSchema.{one_schema}
 use Rattle.sql_open.specs.Opening.{IsVerdict, fault_of_reading}
 use Rattle.sql_open.specs.declared.fault.OpenFault.{OpenFault}

@@ -1,5 +1,7 @@
 pub mod Crashes
+pub mod Judging
 pub mod Known
+pub mod MeetingReading
 pub mod Migration
 pub mod NewDesk
 pub mod NewTables
@@ -7,4 +9,6 @@ pub mod Opened
 pub mod Opening
 pub mod OpeningByMigration
 pub mod Rising
+pub mod StoredRows
+pub mod Votes
 pub mod WholeDesk

@@ -13,7 +13,7 @@ use Rattle.sqlite_disk.specs.Disk.{MoreFaults}
 use Rattle.sqlite_trees.specs.View.{IsClean}
 use Rattle.sqlite_trees.specs.declared.store.Store as store
 use Rattle.sql_rows.specs.declared.stored_records.Version.{Version}
-use Rattle.sql_office.specs.Judging.{HasOffice}
+use Rattle.sql_open.specs.Judging.{HasOffice}
 use Rattle.sql_schema.specs.Statements.{ChangesNothing, IsDesk, IsRead, WasOpen}
 use Rattle.sql_desk_tables.specs.ColumnChecks.{HasColumnsOf}
 use Rattle.sql_desk_tables.specs.Versions.{AreNoted}

@@ -21,10 +21,10 @@ ghost use Rattle.sqlite.specs.State.{Fails, HasCleanDisk, Survives};
 ghost use Rattle.sqlite_trees.specs.View.{IsClean};
 
 use crate::fault::OpenFault;
+use crate::judging::judge_office;
 use crate::moving::open_moved;
 use crate::version::{KnownVersion, judge_version};
 use sql_desk_tables::columns;
-use sql_office::judge_office;
 use sqlite::{Alter, Connection, Error, ErrorCode, Transaction};
 use std::alloc::Global;
 

@@ -1,7 +1,7 @@
 use Rattle.std.proofs.Common.{◌≡◌, Err, ap, rules}
 use Rattle.desk_words.specs.declared.request.DeskRequest.TheVariants.{CallMeeting}
 use Rattle.meeting_core.specs.Decisions.{AreMeetingsRead}
-use Rattle.sql_load_meeting.specs.declared.desk.MeetingCount.{MeetingCount}
+use Rattle.sql_load_needed.specs.declared.desk.MeetingCount.{MeetingCount}
 use Rattle.sql_load.proofs.StoredOfficeLemmas.{holds_stop}
 use Rattle.desk_store.specs.TableReads.{IsDecidedAlways}
 use Rattle.desk_store.proofs.DecidingLemmas.{returned_made}

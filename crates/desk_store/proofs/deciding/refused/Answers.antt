@@ -4,7 +4,7 @@ use Rattle.desk_words.specs.declared.answer.Answer.{Answer}
 use Rattle.desk_words.specs.declared.change.Change.{Change}
 use Rattle.desk_words.specs.declared.office.OfficeLists.{OfficeLists}
 use Rattle.sql_load.specs.LoadResults.{fault_of_error}
-use Rattle.sql_load_meeting.proofs.LoadedMeetingDayLemmas.{asked_so, asked_stop}
+use Rattle.sql_load_needed.proofs.LoadedMeetingDayLemmas.{asked_so, asked_stop}
 use Rattle.desk_store.proofs.DeskReadLemmas.{returned_office}
 use Rattle.desk_store.proofs.deciding.refused.Goals as goal
 

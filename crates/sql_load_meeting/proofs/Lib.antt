@@ -1,3 +1,0 @@
-pub mod LoadedMeetingCountLemmas
-pub mod LoadedMeetingDayLemmas
-pub mod LoadedMeetingPartLemmas

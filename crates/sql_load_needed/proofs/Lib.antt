@@ -1,0 +1,6 @@
+pub mod CountedCastLemmas
+pub mod LoadedMeetingCountLemmas
+pub mod LoadedMeetingDayLemmas
+pub mod LoadedMeetingPartLemmas
+pub mod LoadedPartyHomeLemmas
+pub mod LoadedPartyRowLemmas

@@ -1,0 +1,3 @@
+pub mod LookUpLaws
+pub mod LookUpSteps
+pub mod MeetingParts

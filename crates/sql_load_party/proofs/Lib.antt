@@ -1,3 +1,0 @@
-pub mod CountedCastLemmas
-pub mod LoadedPartyHomeLemmas
-pub mod LoadedPartyRowLemmas

@@ -1,2 +1,0 @@
-pub mod LookUpLaws
-pub mod LookUpSteps

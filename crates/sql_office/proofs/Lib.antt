@@ -1,9 +1,0 @@
-pub mod CastPartLemmas
-pub mod JudgedLemmas
-pub mod MeetingPartLemmas
-pub mod MeetingReadLemmas
-pub mod MeetingRowLemmas
-pub mod OrderedMeetingLemmas
-pub mod PassingLemmas
-pub mod StoredRowLemmas
-pub mod VoteLemmas

@@ -1,4 +1,0 @@
-pub mod Judging
-pub mod MeetingReading
-pub mod StoredRows
-pub mod Votes

@@ -1,0 +1,13 @@
+use Rattle.std.proofs.Common.{◌≡◌, Err, Some, rules}
+use Rattle.seq.specs.Sorting.{sort_by}
+use Rattle.desk_words.specs.SortedLists.{caller_before}
+use Rattle.sql_load.proofs.ReadingLemmas.{last, stop}
+use Rattle.sql_open.proofs.office.keys_of.Goals as goal
+
+pub returns-in_err-rows-clause-read : goal.returns-in_err-rows-clause-read
+returns-in_err-rows-clause-read g c =
+    let is : c.from_residual.result ≡ Err c.in_err-rows.field-0.0 = search rules in
+    stop g.S.Store _ _ _ _ (λ rows _. Some (sort_by caller_before rows)) c.in_err-rows.field-0.0 c.from_residual.result is c.in_err-rows.ensures.read
+
+pub returns-clause-read : goal.returns-clause-read
+returns-clause-read g c = last g.S.Store _ _ _ _ _ _ (λ rows. Some (sort_by caller_before rows)) c.in_ok-rows.ensures.read c.key_rows.ensures
