@@ -8,7 +8,7 @@ use crate::calls;
 use crate::faults::open_word;
 use crate::looking::{look, open_any, read};
 use case_desks::{Asked, Outcome, ask_office, word};
-use desk_store::CachingDesk;
+use desk_cache::CachingDesk;
 use sqlite::{Alter, Connection};
 use std::alloc::Global;
 

@@ -6,7 +6,7 @@ ghost use Rattle.desk_file.specs.FileEnds.{ended_by_error};
 use crate::printing::results;
 use byte_io::Sink;
 use cli_exit::{Ended, ExitError};
-use desk_store::CachingDesk;
+use desk_cache::CachingDesk;
 use desk_words::MeetingId;
 use file_probe::DeskFileError;
 use host::OfficeFiles;

@@ -11,7 +11,7 @@ ghost use Rattle.sqlite.specs.State.{HasCleanDisk, Survives};
 
 use byte_io::Sink;
 use cli_exit::Ended;
-use desk_store::CachingDesk;
+use desk_cache::CachingDesk;
 use desk_words::MeetingId;
 use sqlite::Alter;
 use std::alloc::Global;

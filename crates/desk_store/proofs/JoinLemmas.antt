@@ -22,8 +22,8 @@ use Rattle.meeting_core.specs.Step.{stepped}
 use Rattle.sql_load.specs.declared.fault.LoadError.{LoadError}
 use Rattle.any_office.specs.StoredOffice.{office_after, made_by}
 use Rattle.desk_store.specs.Joins.{AreAfter, IsAsItWas, IsDeskIfOpen, LeavesDesk}
-use Rattle.desk_store.specs.Cache.{AreRecordsOf}
-use Rattle.desk_store.specs.declared.cache.CachedRecord.{CachedRecord}
+use Rattle.desk_store.specs.Cached.{AreRecordsOf}
+use Rattle.desk_store.specs.declared.cached.CachedRecord.{CachedRecord}
 use Rattle.desk_store.specs.TableReads.{HoldsOfTables}
 use Rattle.desk_store.proofs.KeepingLemmas.{stands_same}
 

@@ -3,5 +3,4 @@ pub mod DecidingLemmas
 pub mod DeskReadLemmas
 pub mod JoinLemmas
 pub mod KeepingLemmas
-pub mod CacheLemmas
 pub mod StepLemmas

@@ -1,5 +1,4 @@
+pub mod Cached
 pub mod Joins
-pub mod Cache
-pub mod Caching
 pub mod StoreFailures
 pub mod TableReads

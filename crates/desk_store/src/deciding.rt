@@ -5,12 +5,12 @@ ghost use Rattle.desk_words.specs.Rulings as ruling;
 ghost use Rattle.desk_words.specs.declared.office.OfficeLists.{OfficeLists};
 ghost use Rattle.desk_words.specs.declared.request.DeskRequest.TheVariants as whole;
 ghost use Rattle.desk_words.specs.declared.request.PartyRequest.TheVariants.{Notice};
-ghost use Rattle.desk_store.specs.Cache.{IsRecordOf};
+ghost use Rattle.desk_store.specs.Cached.{IsRecordOf};
 ghost use Rattle.desk_store.specs.TableReads.{IsDecided, IsDecidedAlways, HoldsOfTables};
 ghost use Rattle.meeting_core.specs.Decisions.{office_call, party_call};
 ghost use Rattle.party_views.specs.Views.{public_of};
 
-use crate::cache::{CachedRecord, cached_record};
+use crate::cached::{CachedRecord, cached_record};
 use crate::reading::fault_of_book;
 use desk_words::{
     Answer, Call, Change, DayList, DeskRequest, KeyRows, MeetingId, Moment, NewMeeting,
@@ -31,7 +31,7 @@ use std::alloc::{AllocError, Global};
 
 /// What is decided of a notice, from the meeting's public record (section 307). No rows of the party
 /// are read. The error is want of memory.
-pub(crate) fn answer_notice(
+pub fn answer_notice(
     alloc: Global,
     now: Moment,
     party: Party,

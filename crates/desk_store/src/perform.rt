@@ -7,7 +7,7 @@ ghost use Rattle.sql_open.specs.Opened.{OnDone};
 ghost use Rattle.sql_open.specs.WholeDesk.{LeavesWhole};
 ghost use Rattle.sql_schema.specs.Statements.{DeclaresNothing, WasOpen};
 ghost use Rattle.desk_store.specs.Joins.{AreAfter, IsAsItWas, LeavesDesk};
-ghost use Rattle.desk_store.specs.Cache.{AreRecordsOf, valid_after};
+ghost use Rattle.desk_store.specs.Cached.{AreRecordsOf, valid_after};
 ghost use Rattle.desk_store.specs.TableReads.{HoldsOfDesk, HoldsOfDeskInTransaction, WritesIfAny};
 ghost use Rattle.sql_model.specs.Standing.{Stands};
 ghost use Rattle.meeting_core.specs.Step.{decided, stepped};
@@ -15,7 +15,7 @@ ghost use Rattle.sqlite.specs.Effect.{IsDatabase};
 ghost use Rattle.sqlite.specs.Held.{state};
 ghost use Rattle.sqlite.specs.State.{IsUnchanged, KeepsCommit, Survives};
 
-use crate::cache::{CachedRecord, StillValid, valid_after};
+use crate::cached::{CachedRecord, StillValid, valid_after};
 use crate::deciding::decide;
 use crate::desk::Desk;
 use crate::reading::failure_of;
@@ -98,7 +98,7 @@ fn step<S: Alter, T: Drop, F: FnOnce(&Reply) -> Result<T, AllocError>>(
 impl<S: Alter> Desk<S> {
     /// Makes one call, as `perform` does, where public records are cached, and answers besides what
     /// of a cache is valid then.
-    pub(crate) fn perform_with_records<T: Drop, F: FnOnce(&Reply) -> Result<T, AllocError>>(
+    pub fn perform_with_records<T: Drop, F: FnOnce(&Reply) -> Result<T, AllocError>>(
         &mut self,
         call: Call,
         cached: &[CachedRecord],

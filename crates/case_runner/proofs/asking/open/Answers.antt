@@ -1,6 +1,6 @@
 use Rattle.sqlite.specs.Held.{state}
 use Rattle.sql_open.proofs.WholeLemmas.{notes_so}
-use Rattle.desk_store.proofs.CacheLemmas.{stands_if_made}
+use Rattle.desk_cache.proofs.CacheLemmas.{stands_if_made}
 use Rattle.case_runner.proofs.asking.open.Goals as goal
 
 pub of_opened-desk-requires-clause-opened : goal.of_opened-desk-requires-clause-opened

@@ -2,7 +2,7 @@ use Rattle.std.proofs.Common.{Ok, ap, subst, sym, ◌∙◌}
 use Rattle.std.specs.Fn.{FnOnceReturnsAt}
 use Rattle.desk_words.specs.declared.answer.Answer.{Answer}
 use Rattle.desk_words.specs.declared.change.Change.{Change}
-use Rattle.desk_store.specs.Cache.{valid_after}
+use Rattle.desk_store.specs.Cached.{valid_after}
 use Rattle.desk_store.specs.TableReads.{IsDecided}
 use Rattle.desk_store.proofs.DecidingLemmas.{holds_where}
 use Rattle.desk_store.proofs.StepLemmas.{decided_as, step_holds, step_keeps, step_opened, step_still}

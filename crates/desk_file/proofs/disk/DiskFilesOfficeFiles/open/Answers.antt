@@ -1,6 +1,6 @@
 use Rattle.std.proofs.Common.{sym, subst}
 use Rattle.sqlite.specs.Held.{state}
-use Rattle.desk_store.proofs.CacheLemmas.{stands_if_made}
+use Rattle.desk_cache.proofs.CacheLemmas.{stands_if_made}
 use Rattle.sql_file.specs.OpenedFiles.{OpensFile}
 use Rattle.desk_file.proofs.disk.DiskFilesOfficeFiles.open.Goals as goal
 

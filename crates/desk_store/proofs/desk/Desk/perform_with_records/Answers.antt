@@ -8,8 +8,8 @@ use Rattle.meeting_core.specs.Step.{decided, stepped}
 use Rattle.desk_words.specs.declared.office.OfficeLists.{OfficeLists}
 use Rattle.sql_model.specs.Standing.{Stands}
 use Rattle.sql_schema.specs.Statements.{DeclaresNothing}
-use Rattle.desk_store.specs.Cache.{valid_after}
-use Rattle.desk_store.specs.declared.cache.StillValid.{StillValid}
+use Rattle.desk_store.specs.Cached.{valid_after}
+use Rattle.desk_store.specs.declared.cached.StillValid.{StillValid}
 use Rattle.desk_store.proofs.JoinLemmas.{IsOver, IsWithin, as_it_was, asked_open, asked_stands, asked_stop, begun_sound, committed, desk_clean, itself_after, leaves_behind, leaves_failed, not_committed, same_behind, records_begun, survives_behind, survives_call, whole_behind}
 use Rattle.desk_store.proofs.KeepingLemmas.{stands_same}
 use Rattle.desk_store.proofs.DeskReadLemmas.{error_of, mapped_failed, mapped_is, mapped_on}

@@ -1,0 +1,62 @@
+//! Public records of meetings that are cached, and what of a cache is valid after a change.
+ghost use Rattle.std.specs.Prelude.{◌≡◌, All, IfSome};
+ghost use Rattle.desk_store.specs.Cached.{IsRecordOf, valid_after};
+ghost use Rattle.desk_words.specs.declared.office.OfficeLists.{OfficeLists};
+ghost use Rattle.party_views.specs.Views.{public_of};
+
+use desk_words::{Change, MeetingChange, MeetingId};
+use sql_load::OwnedRecord;
+
+/// The public record of a meeting, or of a name that no meeting has.
+#[derive(Drop)]
+pub struct CachedRecord {
+    /// The name under which it was read.
+    pub meeting: MeetingId,
+    /// What was read.
+    pub public: OwnedRecord,
+}
+
+/// The record of a meeting among these.
+pub fn cached_record(cached: &[CachedRecord], meeting: MeetingId) -> Option<&OwnedRecord>
+    ensures { (office : OfficeLists) → All (IsRecordOf office) cached.now
+        → IfSome result (λ public. public.now ≡ public_of office meeting) }
+{
+    let found = cached.iter().find(|cached| cached.meeting.is(meeting))?;
+    Some(&found.public)
+}
+
+/// What of a cache is valid after a change.
+#[derive(Clone, Copy)]
+pub struct StillValid {
+    /// Whether public records are.
+    pub records: bool,
+    /// Whether callers are.
+    pub callers: bool,
+}
+
+/// What of a cache is valid after a change: what is entered into a meeting's lists is not public, and
+/// each other change in a meeting is.
+pub(crate) fn valid_after(change: &Option<Change>) -> StillValid
+    ensures { result ≡ valid_after change.now }
+{
+    match change {
+        None
+        | Some(
+            Change::InMeeting {
+                change: MeetingChange::Enter(_),
+                ..
+            },
+        ) => StillValid {
+            records: true,
+            callers: true,
+        },
+        Some(Change::SetKeys(_)) => StillValid {
+            records: true,
+            callers: false,
+        },
+        Some(_) => StillValid {
+            records: false,
+            callers: true,
+        },
+    }
+}
