@@ -1,8 +1,9 @@
 //! Public records of meetings that are cached, and what of a cache is valid after a change.
-ghost use Rattle.std.specs.Prelude.{◌≡◌, All, IfSome};
+ghost use Rattle.std.specs.Prelude.{◌≡◌, All, IfSome, find, option_copied, option_map};
 ghost use Rattle.desk_store.specs.Cached.{IsRecordOf, valid_after};
 ghost use Rattle.desk_words.specs.declared.office.OfficeLists.{OfficeLists};
 ghost use Rattle.party_views.specs.Views.{public_of};
+ghost use Rattle.vocabulary.specs.Names.{same_name};
 
 use desk_words::{Change, MeetingChange, MeetingId};
 use sql_load::OwnedRecord;
@@ -16,9 +17,11 @@ pub struct CachedRecord {
     pub public: OwnedRecord,
 }
 
-/// The record of a meeting among these.
+/// The first record of a meeting among these, if there is one.
 pub fn cached_record(cached: &[CachedRecord], meeting: MeetingId) -> Option<&OwnedRecord>
-    ensures { (office : OfficeLists) → All (IsRecordOf office) cached.now
+    ensures is { option_copied result ≡ option_map (λ found. found.public)
+        (find (λ one. same_name one.meeting meeting) cached.now) }
+    ensures agrees { (office : OfficeLists) → All (IsRecordOf office) cached.now
         → IfSome result (λ public. public.now ≡ public_of office meeting) }
 {
     let found = cached.iter().find(|cached| cached.meeting.is(meeting))?;

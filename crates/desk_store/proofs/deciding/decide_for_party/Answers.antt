@@ -5,7 +5,7 @@ use Rattle.desk_store.proofs.deciding.decide_for_party.Goals as goal
 
 pub returns-in-Some-clause-holds : goal.returns-in-Some-clause-holds
 returns-in-Some-clause-holds g c =
-    returned_also g.S.Store _ _ c.decide_by_rows.result _ _ c.decide_by_rows.ensures.holds (λ office preserved answer is cached. is (c.in-Some.ensures office cached))
+    returned_also g.S.Store _ _ c.decide_by_rows.result _ _ c.decide_by_rows.ensures.holds (λ office preserved answer is cached. is (c.in-Some.ensures.agrees office cached))
 
 pub returns-in-None-clause-holds : goal.returns-in-None-clause-holds
 returns-in-None-clause-holds g c =
