@@ -1,4 +1,4 @@
-use Rattle.std.proofs.Common.{◌≡◌, true, false, ap, ◌∙◌}
+use Rattle.std.proofs.Common.{◌≡◌, true, false, ap, ◌∙◌, rules}
 use Rattle.office_decisions.specs.RequestLimits.{if_any}
 use Rattle.meeting_core.proofs.StepLaws.{at_once_quiet, sets_alone}
 use Rattle.desk_words.specs.Changes.{sets_fields}
@@ -22,3 +22,6 @@ returns-in_err-apply_if_any-clause-refusals g c = λ refused.
     ap (if_any sets_fields) (ap (λ (a : Answer Change). a.change) c.in_ok-answer.ensures.answer ∙ at_once_quiet c.args.self.now c.args.call refused) in
     let never : false ≡ true = c.in_err-apply_if_any.ensures.sure fields in
     absurd (cc)
+
+pub returns-in_err-shown-clause-same : goal.returns-in_err-shown-clause-same
+returns-in_err-shown-clause-same g c = search rules

@@ -1,0 +1,5 @@
+use Rattle.std.proofs.Common.{rules}
+use Rattle.sql_queries.proofs.register.OfMemberQuery.finding.Goals as goal
+
+pub returns : goal.returns
+returns c = search rules
