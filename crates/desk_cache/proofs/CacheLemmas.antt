@@ -34,16 +34,17 @@ use Rattle.sql_open.specs.declared.version.KnownVersion.{KnownVersion}
 use Rattle.sql_open.specs.declared.version.KnownVersion.TheVariants.{One, Two}
 use Rattle.desk_store.specs.Joins.{AreAfter, IsAsItWas, IsDeskIfOpen, LeavesDesk}
 use Rattle.desk_cache.specs.Cache.{AreCallersOf, IsCacheOf, IsValidIfAny, IsValid, StandsIfOpen}
-use Rattle.desk_store.specs.Cached.{IsRecordOf, valid_after}
+use Rattle.desk_deciding.specs.CachedRecords.{IsRecordOf}
+use Rattle.desk_store.specs.Cached.{valid_after}
 use Rattle.desk_cache.specs.Caching.{Finds, LeavesNext, Performs, only_reply}
-use Rattle.desk_store.proofs.DeskReadLemmas.{always}
+use Rattle.desk_deciding.proofs.ReturnedLemmas.{always}
 use Rattle.desk_store.specs.TableReads.{HoldsOfDesk}
 use Rattle.desk_words.specs.declared.caller.Caller.{Caller}
 use Rattle.meeting_core.specs.KeyHolders.{caller_with}
 use Rattle.meeting_core.specs.Step.{decided, stepped}
 use Rattle.vocabulary.specs.Names.{name_cmp}
 use Rattle.desk_cache.specs.declared.cache.Cache.{Cache}
-use Rattle.desk_store.specs.declared.cached.CachedRecord.{CachedRecord}
+use Rattle.desk_deciding.specs.declared.cached.CachedRecord.{CachedRecord}
 
 -- ---- the office for which tables stand
 

@@ -16,7 +16,7 @@ use Rattle.sql_model.specs.Standing.{Stands}
 use Rattle.sql_open.specs.Crashes.{LeavesItself}
 use Rattle.sql_open.specs.WholeDesk.{LeavesWhole}
 use Rattle.sql_schema.specs.Tables.{desk_schema}
-use Rattle.desk_store.specs.Cached.{IsRecordOf}
+use Rattle.desk_deciding.specs.CachedRecords.{IsRecordOf}
 use Rattle.desk_cache.specs.declared.cache.Cache.{Cache}
 
 -- these callers have these keys

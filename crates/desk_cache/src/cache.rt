@@ -1,14 +1,16 @@
 //! The cache of a desk: callers by their keys, and public records of meetings.
 ghost use Rattle.std.specs.Prelude.{◌≡◌, false, All, IfSome, IsTrue, Option, Some};
 ghost use Rattle.desk_cache.specs.Cache.{AreCallersOf, IsCacheOf};
-ghost use Rattle.desk_store.specs.Cached.{IsRecordOf, valid_after};
+ghost use Rattle.desk_deciding.specs.CachedRecords.{IsRecordOf};
+ghost use Rattle.desk_store.specs.Cached.{valid_after};
 ghost use Rattle.desk_words.specs.Changes.{applied_if_any};
 ghost use Rattle.desk_words.specs.declared.change.Change.{Change};
 ghost use Rattle.desk_words.specs.declared.office.OfficeLists.{OfficeLists};
 ghost use Rattle.meeting_core.specs.KeyHolders.{caller_with};
 ghost use Rattle.party_views.specs.Views.{public_of};
 
-use desk_store::{CachedRecord, OwnedRecord, StillValid};
+use desk_deciding::CachedRecord;
+use desk_store::{OwnedRecord, StillValid};
 use desk_words::{Caller, MeetingId, SecretKey};
 use std::alloc::Global;
 use std::collections::BTreeMap;

@@ -14,7 +14,8 @@ ghost use Rattle.sqlite.specs.Held.{state};
 
 use crate::cache::Cache;
 use crate::declared::is_as_made;
-use desk_store::{Desk, OwnedRecord, answer_notice, cached_record};
+use desk_deciding::{answer_notice, cached_record};
+use desk_store::{Desk, OwnedRecord};
 use desk_words::{
     Answer, Call, Caller, Failure, MeetingId, Moment, Party, PartyRequest, Reply, Request,
     SecretKey,
@@ -240,12 +241,12 @@ impl<S: Alter> CachingDesk<S> {
     fn perform_in_tables<T: Drop, F: FnOnce(&Reply) -> Result<T, AllocError>>(
         &mut self,
         cache: Cache,
-        call: Call,
+        call: &Call,
         show: F,
     ) -> Result<T, Failure>
         requires callable { F.IsAlwaysCallable show }
         requires cache { IsValid S.Store self.old cache }
-        ensures { Performs S.Store self.old self.new call result
+        ensures { Performs S.Store self.old self.new call.now result
             (λ reply t. FnOnceReturnsAt F.FnOnce show reply (Ok t)) }
     {
         self.cache = None;
@@ -282,15 +283,15 @@ impl<S: Alter> CachingDesk<S> {
     fn perform_cached<T: Drop, F: FnOnce(&Reply) -> Result<T, AllocError>>(
         &mut self,
         cache: Cache,
-        call: Call,
+        call: &Call,
         show: F,
     ) -> Result<T, Failure>
         requires callable { F.IsAlwaysCallable show }
         requires cache { IsValid S.Store self.old cache }
-        ensures { Performs S.Store self.old self.new call result
+        ensures { Performs S.Store self.old self.new call.now result
             (λ reply t. FnOnceReturnsAt F.FnOnce show reply (Ok t)) }
     {
-        let Some((party, meeting)) = noticed_in(&call) else {
+        let Some((party, meeting)) = noticed_in(call) else {
             return self.perform_in_tables(cache, call, show);
         };
         match cached_notice(self.alloc, &cache, call.moment, party, meeting) {
@@ -307,15 +308,15 @@ impl<S: Alter> CachingDesk<S> {
     fn perform_with_cache<T: Drop, F: FnOnce(&Reply) -> Result<T, AllocError>>(
         &mut self,
         cache: Cache,
-        call: Call,
+        call: &Call,
         show: F,
     ) -> Result<T, Failure>
         requires callable { F.IsAlwaysCallable show }
         requires cache { IsValid S.Store self.old cache }
-        ensures { Performs S.Store self.old self.new call result
+        ensures { Performs S.Store self.old self.new call.now result
             (λ reply t. FnOnceReturnsAt F.FnOnce show reply (Ok t)) }
     {
-        let cache = self.cache_record(cache, &call)?;
+        let cache = self.cache_record(cache, call)?;
         self.perform_cached(cache, call, show)
     }
 
@@ -348,7 +349,7 @@ impl<S: Alter> CachingDesk<S> {
             (λ reply t. FnOnceReturnsAt F.FnOnce show reply (Ok t)) }
     {
         match self.cache.take() {
-            Some(cache) => self.perform_with_cache(cache, call, show),
+            Some(cache) => self.perform_with_cache(cache, &call, show),
             None => self.perform_uncached(call, show),
         }
     }

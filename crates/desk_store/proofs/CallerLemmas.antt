@@ -27,7 +27,8 @@ use Rattle.sql_schema.specs.Statements.{ChangesNothing, FindsRecords, IsRead}
 use Rattle.sql_model.proofs.FlatChanges.{keys_held}
 use Rattle.sql_model.proofs.ModelOfficeLemmas.{are_of}
 use Rattle.sql_rows.proofs.RowMeaningLemmas.{bound}
-use Rattle.desk_store.specs.TableReads.{IsCallerWith, HoldsOfTables}
+use Rattle.desk_deciding.specs.Deciding.{HoldsOfTables}
+use Rattle.desk_store.specs.TableReads.{IsCallerWith}
 
 none_passes : {X : Type 0} (test : X → Bool) (xs : List X) → list_any test xs ≡ false → find test xs ≡ None
 none_passes test [] h = refl

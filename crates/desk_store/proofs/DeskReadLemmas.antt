@@ -9,22 +9,10 @@ use Rattle.sql_model.specs.OfficeRecords.{office_in}
 use Rattle.sql_load.specs.declared.fault.LoadError.{LoadError}
 use Rattle.sql_load.specs.WholeReading.{IsReading}
 use Rattle.office_validation.specs.Validation.{office_in_order}
-use Rattle.sql_load.specs.TableLookUps.{HoldsOfStoredOffice, HoldsOrFails}
-use Rattle.desk_store.specs.TableReads.{HoldsOfTables, IsBookOf}
+use Rattle.desk_deciding.specs.Deciding.{HoldsOfTables}
+use Rattle.desk_deciding.proofs.ReturnedLemmas.{always, mapped_ok, ok_weaker}
+use Rattle.desk_store.specs.TableReads.{IsBookOf}
 use Rattle.sql_open.proofs.OrderedMeetingLemmas.{office_ordered}
-
-pub mapped_ok : {X E D : Type 0} (Q : E → D → Type 0) (P : X → Type 0) (s : Result X E) (r : Result X D) → MatchResult s (λ x. r ≡ Ok x) (λ e. IsErrAnd r (Q e)) → IfOk s P → IfOk r P
-mapped_ok Q P (Ok x) r is h = subst (λ q. IfOk q P) (sym is) h
-mapped_ok Q P (Err e) (Ok x) is h = absurd is
-mapped_ok Q P (Err e) (Err d) is h = tt
-
-pub always : {X E : Type 0} {W : Type 0} (r : Result X E) → W → OnOk r W
-always (Ok x) w = w
-always (Err e) w = tt
-
-pub ok_weaker : {X E : Type 0} (P Q : X → Type 0) (r : Result X E) → ((x : X) → P x → Q x) → IfOk r P → IfOk r Q
-ok_weaker P Q (Ok x) next h = next x h
-ok_weaker P Q (Err e) next h = tt
 
 module _ {S : Type 0} (g : store.Ghosts S) (a b : Held S) where
   -- the lists that are read are the office, and so is the book of them
@@ -55,17 +43,3 @@ mapped_failed Q (Err e) r is got = refl
 pub error_of : {X E : Type 0} (P : E → Type 0) (r : Result X E) → IsErr r → IfErr r P → (e : E) × P e
 error_of P (Ok x) failed h = absurd cc
 error_of P (Err e) failed h = (e, h)
-
--- ---- what is read of the office that the tables hold
-
-if_returned : {X : Type 0} (P : X → Type 0) (r : Result X LoadError) → HoldsOrFails P r → IfOk r P
-if_returned P (Ok x) h = h
-if_returned P (Err e) h = tt
-
--- is read of the office for which they stand
-pub returned_office : {S X : Type 0} (g : store.Ghosts S) (a b : Held S) (r : Result X LoadError) (P : OfficeLists → X → Type 0) → HoldsOfStoredOffice g a b r P → HoldsOfTables g a b r P
-returned_office g a b r P returned = record {
-  holds = λ clean office stands. if_returned (P office) r (returned.holds (clean, stands.desk) office stands.holds stands.preserved);
-  same = returned.same;
-  changes = returned.changes;
-}

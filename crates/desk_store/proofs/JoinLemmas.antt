@@ -23,9 +23,9 @@ use Rattle.sql_load.specs.declared.fault.LoadError.{LoadError}
 use Rattle.any_office.specs.StoredOffice.{office_after, made_by}
 use Rattle.desk_store.specs.Joins.{AreAfter, IsAsItWas, IsDeskIfOpen, LeavesDesk}
 use Rattle.desk_store.specs.Cached.{AreRecordsOf}
-use Rattle.desk_store.specs.declared.cached.CachedRecord.{CachedRecord}
-use Rattle.desk_store.specs.TableReads.{HoldsOfTables}
-use Rattle.desk_store.proofs.KeepingLemmas.{stands_same}
+use Rattle.desk_deciding.specs.declared.cached.CachedRecord.{CachedRecord}
+use Rattle.desk_deciding.specs.Deciding.{HoldsOfTables}
+use Rattle.desk_deciding.proofs.KeepingLemmas.{stands_same}
 
 -- what is done within a transaction commits nothing
 pub record IsWithin (old new : State) : Type 0 where

@@ -1,5 +1,5 @@
 -- A call that is decided, and written.
-use Rattle.std.proofs.Common.{◌≡◌, true, Option, Some, None, Ok, Err, Result, IsErr, IsTrue, sym, ap, subst, ◌∙◌, arith}
+use Rattle.std.proofs.Common.{◌≡◌, true, Option, Some, None, Ok, Result, IsTrue, sym, ap, subst, ◌∙◌, arith}
 use Rattle.sqlite.specs.Effect.{Database, IsDatabase}
 use Rattle.sqlite.specs.Held.{Held, state}
 use Rattle.sqlite.specs.State.{HasCleanDisk, IsUnchanged, KeepsCommit}
@@ -8,7 +8,6 @@ use Rattle.desk_words.specs.Office.{is_office}
 use Rattle.desk_words.specs.declared.answer.Answer.{Answer}
 use Rattle.desk_words.specs.declared.change.Change.{Change}
 use Rattle.desk_words.specs.declared.office.OfficeLists.{OfficeLists}
-use Rattle.sql_load.specs.declared.fault.LoadError.{LoadError}
 use Rattle.desk_words.specs.declared.request.Call.{Call}
 use Rattle.sql_load.proofs.ReadingLemmas.{keeps_then}
 use Rattle.desk_words.specs.Changes.{applied_if_any}
@@ -16,19 +15,15 @@ use Rattle.meeting_core.specs.Decisions.{DecidedChangesCanBeMade}
 use Rattle.meeting_core.specs.Step.{decided, stepped}
 use Rattle.sql_write.specs.Writes.{StandsIn}
 use Rattle.sql_schema.specs.Statements.{DeclaresNothing, WasOpen}
-use Rattle.desk_store.specs.TableReads.{IsDecided, HoldsOfTables, WritesIfAny, can_make_if_any}
+use Rattle.desk_deciding.specs.Deciding.{IsDecided, HoldsOfTables}
+use Rattle.desk_store.specs.TableReads.{WritesIfAny, can_make_if_any}
 use Rattle.sql_model.specs.Standing.{Stands}
-use Rattle.desk_store.proofs.KeepingLemmas.{stands_same}
+use Rattle.desk_deciding.proofs.KeepingLemmas.{stands_same}
 
 -- what is decided can be made
 decided_makes : DecidedChangesCanBeMade → (office : OfficeLists) (call : Call) (change : Option Change) → (decided office call).change ≡ change → is_office office ≡ true → is_office (applied_if_any office change) ≡ true → can_make_if_any office change ≡ true
 decided_makes law office call None is before later = before
 decided_makes law office call (Some change) is before later = law office call change is before later
-
--- where the office is not read, or nothing is decided, nothing is said of it
-pub failed_returned : {S X Y : Type 0} (g : store.Ghosts S) (a b : Held S) (IsSo : OfficeLists → X → Type 0) (IsThat : OfficeLists → Y → Type 0) (old : Result X LoadError) (r : Result Y LoadError) → IsErr r → HoldsOfTables g a b old IsSo → HoldsOfTables g a b r IsThat
-failed_returned g a b IsSo IsThat old (Ok y) bad read = absurd cc
-failed_returned g a b IsSo IsThat old (Err e) bad read = record { holds = λ clean office stands. tt; same = λ done. tt; changes = read.changes }
 
 module _ {S : Type 0} (g : store.Ghosts S) (a b c : Held S) (call : Call) (answer : Answer Change) (returned : HoldsOfTables g a b (Ok answer) (IsDecided call)) where
   -- while a call is decided, the tables stay the office that they are

@@ -1,5 +1,5 @@
 -- Public records of meetings that are cached, and what of a cache is valid after a change.
-use Rattle.std.specs.Prelude.{◌≡◌, List, Option, Some, None, All, true, false}
+use Rattle.std.specs.Prelude.{List, Option, Some, None, All, true, false}
 use Rattle.sqlite.specs.Held.{Held, state}
 use Rattle.sqlite.specs.State.{HasCleanDisk}
 use Rattle.sqlite_trees.specs.declared.store.Store as store
@@ -7,16 +7,12 @@ use Rattle.desk_words.specs.declared.change.Change.{Change}
 use Rattle.desk_words.specs.declared.change.Change.TheVariants.{InMeeting, SetKeys}
 use Rattle.desk_words.specs.declared.change.MeetingChange.TheVariants.{Enter}
 use Rattle.desk_words.specs.declared.office.OfficeLists.{OfficeLists}
-use Rattle.party_views.specs.Views.{public_of}
 use Rattle.sql_model.specs.Standing.{Stands}
-use Rattle.desk_store.specs.declared.cached.CachedRecord.{CachedRecord}
+use Rattle.desk_deciding.specs.CachedRecords.{IsRecordOf}
+use Rattle.desk_deciding.specs.declared.cached.CachedRecord.{CachedRecord}
 use Rattle.desk_store.specs.declared.cached.StillValid.{StillValid}
 
--- the record is the public record of its meeting
-abbrev pub IsRecordOf : OfficeLists → CachedRecord → Type 0
-IsRecordOf office cached = cached.public ≡ public_of office cached.meeting
-
--- so are these, of the office for which the tables stand
+-- these are public records of the office for which the tables stand
 abbrev pub AreRecordsOf : {S : Type 0} → store.Ghosts S → Held S → List CachedRecord → Type 0
 AreRecordsOf g desk cached =
     HasCleanDisk (state g desk) → (office : OfficeLists) → Stands (state g desk) office

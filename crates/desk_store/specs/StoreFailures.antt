@@ -1,15 +1,8 @@
 -- The failure that a fault is answered as.
-use Rattle.meeting_core.specs.declared.book.of_lists.BookFault.{BookFault}
-use Rattle.meeting_core.specs.declared.book.of_lists.BookFault.TheVariants as book
 use Rattle.sql_load.specs.declared.fault.LoadError.{LoadError}
 use Rattle.sql_load.specs.declared.fault.LoadError.TheVariants as reading
 use Rattle.desk_words.specs.declared.reply.Failure.{Failure}
 use Rattle.desk_words.specs.declared.reply.Failure.TheVariants.{Store, Memory}
-
--- lists that are no book's are no office's
-abbrev pub fault_of_book : BookFault → LoadError
-fault_of_book book.NoOffice = reading.NoOffice
-fault_of_book book.Memory = reading.Memory
 
 -- rows that are no office's fail a call as a store that refuses does
 abbrev pub failure_of_read : LoadError → Failure

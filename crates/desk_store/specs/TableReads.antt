@@ -1,26 +1,20 @@
--- What a reading of the tables returns, and what is decided is written into them.
-use Rattle.std.specs.Prelude.{◌≡◌, ℕ, Bool, List, Option, Some, None, Result, IfOk, OnOk, IsTrue}
+-- What is read of the office for which the tables stand, and what is written of a decision.
+use Rattle.std.specs.Prelude.{◌≡◌, ℕ, Bool, List, Option, Some, None, Result, OnOk, IsTrue}
 use Rattle.sqlite.specs.Effect.{IsDatabase}
 use Rattle.sqlite.specs.Held.{Held, state}
-use Rattle.sqlite.specs.State.{HasCleanDisk, IsUnchanged, KeepsCommit, Survives}
+use Rattle.sqlite.specs.State.{HasCleanDisk, KeepsCommit, Survives}
 use Rattle.sqlite_trees.specs.declared.store.Store as store
 use Rattle.desk_words.specs.Office.{is_office}
-use Rattle.desk_words.specs.declared.answer.Answer.{Answer}
 use Rattle.desk_words.specs.declared.caller.Caller.{Caller}
 use Rattle.desk_words.specs.declared.change.Change.{Change}
 use Rattle.desk_words.specs.declared.office.OfficeLists.{OfficeLists}
-use Rattle.desk_words.specs.declared.request.Call.{Call}
-use Rattle.desk_words.specs.declared.request.DeskRequest.{DeskRequest}
 use Rattle.desk_words.specs.ViewTypes.{MeetingName, Moment, Party}
 use Rattle.party_views.specs.Public.{PublicRecord}
 use Rattle.party_views.specs.Views.{own_of, public_of}
 use Rattle.party_views.specs.declared.views.OwnView.{OwnView}
-use Rattle.sql_schema.specs.Statements.{ChangesNothing, DeclaresNothing, IsRead}
-use Rattle.sql_load.specs.declared.fault.LoadError.{LoadError}
+use Rattle.sql_schema.specs.Statements.{DeclaresNothing}
 use Rattle.desk_words.specs.Changes.{applied_if_any, can_make}
 use Rattle.meeting_core.specs.KeyHolders.{caller_with}
-use Rattle.meeting_core.specs.Decisions.{desk_call}
-use Rattle.meeting_core.specs.Step.{decided}
 use Rattle.sql_write.specs.Writes.{StandsIn}
 use Rattle.sql_model.specs.Standing.{Stands}
 
@@ -39,14 +33,6 @@ HoldsOfDeskInTransaction g old new Holds =
     HasCleanDisk (state g new) → IsTrue (state g old).in_transaction → IsDatabase (state g old).now
     → (office : OfficeLists) → Stands (state g old) office → Holds office
 
--- what is returned holds of the office stored in the tables, and nothing is changed
-pub record HoldsOfTables {S X : Type 0} (g : store.Ghosts S) (old new : Held S)
-    (result : Result X LoadError) (IsSo : OfficeLists → X → Type 0) : Type 0 where
-  pub holds : HasCleanDisk (state g new) → (office : OfficeLists) → Stands (state g old) office
-      → IfOk result (IsSo office)
-  pub same : IsRead g old new → OnOk result (IsUnchanged (state g old) (state g new))
-  pub changes : ChangesNothing g old new
-
 -- the book is the office
 abbrev pub IsBookOf : OfficeLists → OfficeLists → Type 0
 IsBookOf office book = book ≡ office
@@ -62,15 +48,6 @@ IsPublic meeting office preserved = preserved ≡ public_of office meeting
 -- they are the own things of a party in a meeting at a moment
 abbrev pub IsOwnView : Party → MeetingName → Moment → OfficeLists → OwnView → Type 0
 IsOwnView party meeting now office own = own ≡ own_of office party meeting now
-
--- it is what is decided of a call, and leaves the lists of an office
-pub record IsDecided (call : Call) (office : OfficeLists) (answer : Answer Change) : Type 0 where
-  pub is : answer ≡ decided office call
-  pub preserved : IsTrue (is_office (applied_if_any office answer.change))
-
--- at whatever moment the office asks it of the whole desk, it is decided so
-abbrev pub IsDecidedAlways : DeskRequest → OfficeLists → Answer Change → Type 0
-IsDecidedAlways what office answer = (now : Moment) → IsDecided (desk_call now what) office answer
 
 -- nothing is to be written, or a change that the office can make
 abbrev pub can_make_if_any : OfficeLists → Option Change → Bool

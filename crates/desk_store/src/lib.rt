@@ -2,15 +2,13 @@
 #![tactic(auto)]
 
 mod cached;
-mod deciding;
 mod desk;
 mod library;
 mod perform;
 mod reading;
 mod reads;
 
-pub use cached::{CachedRecord, StillValid, cached_record};
-pub use deciding::answer_notice;
+pub use cached::StillValid;
 pub use desk::Desk;
 pub use sql_load::OwnedRecord;
 pub use sql_open::{CreateError, HandedBack, OpenFault};

@@ -15,11 +15,13 @@ ghost use Rattle.sql_schema.specs.Tables.{no_schema};
 ghost use Rattle.sqlite.specs.Held.{state};
 ghost use Rattle.sqlite.specs.State.{Survives};
 ghost use Rattle.desk_store.specs.Joins.{IsDeskIfOpen, LeavesDesk};
-ghost use Rattle.desk_store.specs.TableReads.{HoldsOfDesk, HoldsOfTables, IsBookOf, IsOwnView};
+ghost use Rattle.desk_deciding.specs.Deciding.{HoldsOfTables};
+ghost use Rattle.desk_store.specs.TableReads.{HoldsOfDesk, IsBookOf, IsOwnView};
 ghost use Rattle.party_views.specs.Views.{own_of};
 
 use crate::desk::Desk;
-use crate::reading::{Reading, fault_of_book};
+use crate::reading::Reading;
+use desk_deciding::fault_of_book;
 use desk_words::{Failure, MeetingId, Moment, Party};
 use meeting_core::Book;
 use party_views::OwnView;
@@ -113,7 +115,7 @@ fn read_book<S: Alter>(tx: &mut Transaction<'_, S>, alloc: Global) -> Result<Boo
     ensures holds { HoldsOfTables S.Store tx.old.conn.now tx.new.conn.now result IsBookOf }
 {
     let lists = read_office(tx, alloc)?;
-    Book::of_lists(alloc, lists).map_err(fault_of_book)
+    Book::of_lists(alloc, lists).map_err(|fault| fault_of_book(fault))
 }
 
 /// The own things of a party in a meeting at a moment.

@@ -15,10 +15,10 @@ ghost use Rattle.sqlite.specs.Effect.{IsDatabase};
 ghost use Rattle.sqlite.specs.Held.{state};
 ghost use Rattle.sqlite.specs.State.{IsUnchanged, KeepsCommit, Survives};
 
-use crate::cached::{CachedRecord, StillValid, valid_after};
-use crate::deciding::decide;
+use crate::cached::{StillValid, valid_after};
 use crate::desk::Desk;
 use crate::reading::failure_of;
+use desk_deciding::{CachedRecord, decide};
 use desk_words::{Answer, Call, Change, Failure, Reply};
 use meeting_core::laws::decided_changes_can_be_made;
 use sql_load::LoadError;
@@ -100,35 +100,35 @@ impl<S: Alter> Desk<S> {
     /// of a cache is valid then.
     pub fn perform_with_records<T: Drop, F: FnOnce(&Reply) -> Result<T, AllocError>>(
         &mut self,
-        call: Call,
+        call: &Call,
         cached: &[CachedRecord],
         show: F,
     ) -> Result<(T, StillValid), Failure>
         requires callable { F.IsAlwaysCallable show }
         requires cached { AreRecordsOf S.Store self.old cached.now }
         ensures done { HoldsOfDesk S.Store self.old self.new (λ office. IfOk result
-            (λ t. FnOnceReturnsAt F.FnOnce show (decided office call).reply (Ok t.0)
-            × Stands (state S.Store self.new) (stepped office call)
-            × (t.1 ≡ valid_after (decided office call).change))) }
+            (λ t. FnOnceReturnsAt F.FnOnce show (decided office call.now).reply (Ok t.0)
+            × Stands (state S.Store self.new) (stepped office call.now)
+            × (t.1 ≡ valid_after (decided office call.now).change))) }
         ensures declares { HoldsOfDesk S.Store self.old self.new (λ _. OnOk result
             (DeclaresNothing (state S.Store self.old) (state S.Store self.new))) }
-        ensures leaves { LeavesDesk S.Store (made_by result call) self.old self.new }
+        ensures leaves { LeavesDesk S.Store (made_by result call.now) self.old self.new }
         ensures ended { self.new.in_transaction ≡ false }
         ensures stays_open { OnDone S.Store self.new result
             (IsTrue (state S.Store self.new).is_open) }
         ensures settled { OnDone S.Store self.new result (LeavesItself (state S.Store self.new)) }
         ensures whole { HoldsOfDesk S.Store self.old self.new (λ office. OnOk result
-            (LeavesWhole (state S.Store self.new) (stepped office call))) }
+            (LeavesWhole (state S.Store self.new) (stepped office call.now))) }
         ensures still { HoldsOfDesk S.Store self.old self.new (λ office.
-            (decided office call).change ≡ None → OnOk result
+            (decided office call.now).change ≡ None → OnOk result
             (IsAsItWas (state S.Store self.old) (state S.Store self.new))) }
         ensures crash { Survives (state S.Store self.old) (state S.Store self.new)
-            (AreAfter (state S.Store self.old) call) }
+            (AreAfter (state S.Store self.old) call.now) }
     {
         self.ask_open()?;
         let _ = self.conn.is_autocommit();
         let mut tx = self.conn.transaction();
-        let done = step(&mut tx, self.alloc, &call, cached, show).map_err(failure_of)?;
+        let done = step(&mut tx, self.alloc, call, cached, show).map_err(failure_of)?;
         tx.commit().map_err(|error| failure_of(error.into()))?;
         Ok(done)
     }
@@ -163,7 +163,7 @@ impl<S: Alter> Desk<S> {
         ensures crash { Survives (state S.Store self.old) (state S.Store self.new)
             (AreAfter (state S.Store self.old) call) }
     {
-        let (shown, _) = self.perform_with_records(call, &[], show)?;
+        let (shown, _) = self.perform_with_records(&call, &[], show)?;
         Ok(shown)
     }
 }

@@ -1,26 +1,16 @@
 //! What the tables hold, read within a transaction.
 ghost use Rattle.std.specs.Prelude.{◌≡◌};
 ghost use Rattle.desk_words.specs.declared.office.OfficeLists.{OfficeLists};
-ghost use Rattle.desk_store.specs.StoreFailures.{failure_of_read, fault_of_book};
-ghost use Rattle.desk_store.specs.TableReads.{IsCallerWith, IsPublic, HoldsOfTables};
+ghost use Rattle.desk_store.specs.StoreFailures.{failure_of_read};
+ghost use Rattle.desk_deciding.specs.Deciding.{HoldsOfTables};
+ghost use Rattle.desk_store.specs.TableReads.{IsCallerWith, IsPublic};
 
 use desk_words::{Caller, Failure, KeyRow, MeetingId, SecretKey};
-use meeting_core::BookFault;
 use sql_desk_tables::keys;
 use sql_load::{LoadError, OwnedRecord, read_public};
 use sql_rows::records;
 use sqlite::{Alter, Transaction};
 use std::alloc::Global;
-
-/// Why rows are not read where they are no office's, or memory runs out.
-pub(crate) fn fault_of_book(fault: BookFault) -> LoadError
-    ensures { result ≡ fault_of_book fault }
-{
-    match fault {
-        BookFault::NoOffice => LoadError::NoOffice,
-        BookFault::Memory => LoadError::Memory,
-    }
-}
 
 /// How a call fails where its tables are not read or not written.
 pub(crate) fn failure_of(fault: LoadError) -> Failure

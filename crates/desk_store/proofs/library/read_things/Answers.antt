@@ -1,5 +1,5 @@
 use Rattle.desk_store.specs.TableReads.{IsOwnView}
-use Rattle.desk_store.proofs.DeskReadLemmas.{returned_office}
+use Rattle.desk_deciding.proofs.ReturnedLemmas.{returned_office}
 use Rattle.desk_store.proofs.library.read_things.Goals as goal
 
 pub returns-clause-holds : goal.returns-clause-holds

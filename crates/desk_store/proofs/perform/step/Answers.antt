@@ -3,8 +3,8 @@ use Rattle.std.specs.Fn.{FnOnceReturnsAt}
 use Rattle.desk_words.specs.declared.answer.Answer.{Answer}
 use Rattle.desk_words.specs.declared.change.Change.{Change}
 use Rattle.desk_store.specs.Cached.{valid_after}
-use Rattle.desk_store.specs.TableReads.{IsDecided}
-use Rattle.desk_store.proofs.DecidingLemmas.{holds_where}
+use Rattle.desk_deciding.specs.Deciding.{IsDecided}
+use Rattle.desk_deciding.proofs.DecidingLemmas.{holds_where}
 use Rattle.desk_store.proofs.StepLemmas.{decided_as, step_holds, step_keeps, step_opened, step_still}
 use Rattle.desk_store.proofs.perform.step.Goals as goal
 

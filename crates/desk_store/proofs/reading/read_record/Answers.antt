@@ -1,5 +1,5 @@
 use Rattle.desk_store.specs.TableReads.{IsPublic}
-use Rattle.desk_store.proofs.DeskReadLemmas.{returned_office}
+use Rattle.desk_deciding.proofs.ReturnedLemmas.{returned_office}
 use Rattle.desk_store.proofs.reading.read_record.Goals as goal
 
 pub returns-clause-holds : goal.returns-clause-holds

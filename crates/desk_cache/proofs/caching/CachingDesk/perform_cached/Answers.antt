@@ -9,5 +9,5 @@ use Rattle.desk_cache.proofs.caching.CachingDesk.perform_cached.Goals as goal
 pub returns-in-Ok-Some : goal.returns-in-Ok-Some
 returns-in-Ok-Some g c =
     let decides = if_some _ _ _ c.in-Ok-Some.field-0-is c.in-Ok-Some.ensures in
-    subst (λ (new : Held _). Performs g.S.Store c.args.self.now new c.args.call c.show_reply.result (λ reply t. FnOnceReturnsAt g.F.FnOnce c.args.show reply (Ok t))) (sym c.show_reply.ensures.same)
-    (performed_at_once g.S.Store c.args.self.now c.args.cache c.args.call c.show_reply.result c.in-Ok-Some.reply _ c.requires.cache (λ office is preserved. ap (decided office) c.in-Some.ensures ∙ decides office is preserved) c.show_reply.ensures.shown)
+    subst (λ (new : Held _). Performs g.S.Store c.args.self.now new c.args.call.now c.show_reply.result (λ reply t. FnOnceReturnsAt g.F.FnOnce c.args.show reply (Ok t))) (sym c.show_reply.ensures.same)
+    (performed_at_once g.S.Store c.args.self.now c.args.cache c.args.call.now c.show_reply.result c.in-Ok-Some.reply _ c.requires.cache (λ office is preserved. ap (decided office) c.in-Some.ensures ∙ decides office is preserved) c.show_reply.ensures.shown)

@@ -11,7 +11,7 @@ use Rattle.sql_schema.specs.Statements.{DeclaresNothing}
 use Rattle.desk_store.specs.Cached.{valid_after}
 use Rattle.desk_store.specs.declared.cached.StillValid.{StillValid}
 use Rattle.desk_store.proofs.JoinLemmas.{IsOver, IsWithin, as_it_was, asked_open, asked_stands, asked_stop, begun_sound, committed, desk_clean, itself_after, leaves_behind, leaves_failed, not_committed, same_behind, records_begun, survives_behind, survives_call, whole_behind}
-use Rattle.desk_store.proofs.KeepingLemmas.{stands_same}
+use Rattle.desk_deciding.proofs.KeepingLemmas.{stands_same}
 use Rattle.desk_store.proofs.DeskReadLemmas.{error_of, mapped_failed, mapped_is, mapped_on}
 use Rattle.desk_store.proofs.desk.Desk.perform_with_records.Goals as goal
 
@@ -29,10 +29,10 @@ returns-clause-done g c = λ clean office stands.
     let inside : IsTrue first.in_transaction = ap (λ h. (state g.S.Store h).in_transaction) begun in
     let sound : IsDatabase first.now = subst (λ (h : Held _). IsDatabase (state g.S.Store h).now) (sym begun) (asked.still opened).1 in
     let early : HasCleanDisk mid = omega (arith, c.commit.ensures.survives.clean) in
-    let done = mapped_is _ (λ (t : _ × StillValid). FnOnceReturnsAt g.F.FnOnce c.args.show (decided office c.args.call).reply (Ok t.0) × Stands mid (stepped office c.args.call) × IsDatabase mid.now × (t.1 ≡ valid_after (decided office c.args.call).change)) c.step.result c.map_err.result c.in_ok-done.done c.map_err.ensures.cases c.in_ok-done.was
+    let done = mapped_is _ (λ (t : _ × StillValid). FnOnceReturnsAt g.F.FnOnce c.args.show (decided office c.args.call.now).reply (Ok t.0) × Stands mid (stepped office c.args.call.now) × IsDatabase mid.now × (t.1 ≡ valid_after (decided office c.args.call.now).change)) c.step.result c.map_err.result c.in_ok-done.done c.map_err.ensures.cases c.in_ok-done.was
     (c.step.ensures.shown early inside sound office there) in
     let over = mapped_on {W = IsTrue mid.in_transaction × Shows mid end mid.now mid.now false × KeepsCounts mid end × (end.marks ≡ [])} _ c.commit.result c.map_err-2.result c.in_ok-map_err.field-0 c.map_err-2.ensures.cases c.in_ok-map_err.was (c.commit.ensures.ok clean) in
-    (done.0, stands_same mid end (stepped office c.args.call) over.1.now_is done.1, done.3)
+    (done.0, stands_same mid end (stepped office c.args.call.now) over.1.now_is done.1, done.3)
 
 pub returns-clause-declares : goal.returns-clause-declares
 returns-clause-declares g c = λ clean office stands.
@@ -62,10 +62,10 @@ returns-clause-leaves g c =
     let within : IsWithin first mid = record { crash = c.step.ensures.crash; was_open = c.step.ensures.was_open; preserved = c.step.ensures.preserved } in
     let asked = c.in_ok-ask_open.ensures.asked in
     let over : HasCleanDisk end → IsTrue mid.in_transaction × Shows mid end mid.now mid.now false × KeepsCounts mid end × (end.marks ≡ []) = λ clean. mapped_on {W = IsTrue mid.in_transaction × Shows mid end mid.now mid.now false × KeepsCounts mid end × (end.marks ≡ [])} _ c.commit.result c.map_err-2.result c.in_ok-map_err.field-0 c.map_err-2.ensures.cases c.in_ok-map_err.was (c.commit.ensures.ok clean) in
-    let there : HasCleanDisk mid → IsDatabase first.now → (office : OfficeLists) → Stands first office → Stands mid (stepped office c.args.call) = λ clean sound office stands.
-    (mapped_is _ (λ (t : _ × StillValid). FnOnceReturnsAt g.F.FnOnce c.args.show (decided office c.args.call).reply (Ok t.0) × Stands mid (stepped office c.args.call) × IsDatabase mid.now × (t.1 ≡ valid_after (decided office c.args.call).change)) c.step.result c.map_err.result c.in_ok-done.done c.map_err.ensures.cases c.in_ok-done.was (c.step.ensures.shown clean inside sound office stands)).1 in
-    leaves_behind g.S.Store c.args.self.now c.ask_open.new.self asked (Some c.args.call) c.commit.new.self.0
-    (committed g.S.Store c.ask_open.new.self c.transaction-tx.result.conn.now c.step.new.tx.conn.now c.commit.new.self.0 begun within c.commit.ensures.ended c.commit.ensures.survives (Some c.args.call) (λ clean. (over clean).1)
+    let there : HasCleanDisk mid → IsDatabase first.now → (office : OfficeLists) → Stands first office → Stands mid (stepped office c.args.call.now) = λ clean sound office stands.
+    (mapped_is _ (λ (t : _ × StillValid). FnOnceReturnsAt g.F.FnOnce c.args.show (decided office c.args.call.now).reply (Ok t.0) × Stands mid (stepped office c.args.call.now) × IsDatabase mid.now × (t.1 ≡ valid_after (decided office c.args.call.now).change)) c.step.result c.map_err.result c.in_ok-done.done c.map_err.ensures.cases c.in_ok-done.was (c.step.ensures.shown clean inside sound office stands)).1 in
+    leaves_behind g.S.Store c.args.self.now c.ask_open.new.self asked (Some c.args.call.now) c.commit.new.self.0
+    (committed g.S.Store c.ask_open.new.self c.transaction-tx.result.conn.now c.step.new.tx.conn.now c.commit.new.self.0 begun within c.commit.ensures.ended c.commit.ensures.survives (Some c.args.call.now) (λ clean. (over clean).1)
     (λ clean. there clean (begun_sound g.S.Store c.args.self.now c.ask_open.new.self asked c.transaction-tx.result.conn.now c.step.new.tx.conn.now begun within clean)))
 
 pub returns-in_err-map_err-clause-leaves : goal.returns-in_err-map_err-clause-leaves
@@ -82,7 +82,7 @@ returns-in_err-map_err-clause-leaves g c =
     let inside : HasCleanDisk mid → (office : OfficeLists) → Stands first office → IsTrue mid.in_transaction = λ clean office stands.
     mapped_on _ c.step.result c.map_err.result c.in_ok-done.done c.map_err.ensures.cases c.in_ok-done.was (c.step.ensures.inside clean began (begun_sound g.S.Store c.args.self.now c.ask_open.new.self asked c.transaction-tx.result.conn.now c.step.new.tx.conn.now begun within clean) office stands) in
     let failed = mapped_failed _ c.commit.result c.map_err-2.result c.map_err-2.ensures.cases c.in_err-map_err.was in
-    leaves_failed g.S.Store c.args.self.now c.commit.new.self.0 c.from_residual-in_err-map_err.result c.args.call c.from_residual-in_err-map_err.ensures.0
+    leaves_failed g.S.Store c.args.self.now c.commit.new.self.0 c.from_residual-in_err-map_err.result c.args.call.now c.from_residual-in_err-map_err.ensures.0
     (leaves_behind g.S.Store c.args.self.now c.ask_open.new.self asked None c.commit.new.self.0
     (not_committed g.S.Store c.ask_open.new.self c.transaction-tx.result.conn.now c.step.new.tx.conn.now c.commit.new.self.0 begun within c.commit.ensures.ended c.commit.ensures.survives (λ clean. error_of (FailsToCommit mid end) c.commit.result failed (c.commit.ensures.err clean)) settled inside))
 
@@ -94,12 +94,12 @@ returns-clause-crash g c =
     let inside : IsTrue first.in_transaction = ap (λ h. (state g.S.Store h).in_transaction) begun in
     let within : IsWithin first mid = record { crash = c.step.ensures.crash; was_open = c.step.ensures.was_open; preserved = c.step.ensures.preserved } in
     let asked = c.in_ok-ask_open.ensures.asked in
-    let there : HasCleanDisk mid → (office : OfficeLists) → Stands first office → Stands mid (stepped office c.args.call) × IsDatabase mid.now = λ clean office stands.
-    let done = mapped_is _ (λ (t : _ × StillValid). FnOnceReturnsAt g.F.FnOnce c.args.show (decided office c.args.call).reply (Ok t.0) × Stands mid (stepped office c.args.call) × IsDatabase mid.now × (t.1 ≡ valid_after (decided office c.args.call).change)) c.step.result c.map_err.result c.in_ok-done.done c.map_err.ensures.cases c.in_ok-done.was
+    let there : HasCleanDisk mid → (office : OfficeLists) → Stands first office → Stands mid (stepped office c.args.call.now) × IsDatabase mid.now = λ clean office stands.
+    let done = mapped_is _ (λ (t : _ × StillValid). FnOnceReturnsAt g.F.FnOnce c.args.show (decided office c.args.call.now).reply (Ok t.0) × Stands mid (stepped office c.args.call.now) × IsDatabase mid.now × (t.1 ≡ valid_after (decided office c.args.call.now).change)) c.step.result c.map_err.result c.in_ok-done.done c.map_err.ensures.cases c.in_ok-done.was
     (c.step.ensures.shown clean inside (begun_sound g.S.Store c.args.self.now c.ask_open.new.self asked c.transaction-tx.result.conn.now c.step.new.tx.conn.now begun within clean) office stands) in
     (done.1, done.2) in
-    survives_behind g.S.Store c.args.self.now c.ask_open.new.self asked c.args.call (state g.S.Store c.commit.new.self.0)
-    (survives_call g.S.Store c.ask_open.new.self c.transaction-tx.result.conn.now c.step.new.tx.conn.now c.commit.new.self.0 begun within c.commit.ensures.ended c.commit.ensures.survives c.args.call (asked_open g.S.Store c.args.self.now c.ask_open.new.self asked) there)
+    survives_behind g.S.Store c.args.self.now c.ask_open.new.self asked c.args.call.now (state g.S.Store c.commit.new.self.0)
+    (survives_call g.S.Store c.ask_open.new.self c.transaction-tx.result.conn.now c.step.new.tx.conn.now c.commit.new.self.0 begun within c.commit.ensures.ended c.commit.ensures.survives c.args.call.now (asked_open g.S.Store c.args.self.now c.ask_open.new.self asked) there)
 
 pub returns-in_err-map_err-clause-crash : goal.returns-in_err-map_err-clause-crash
 returns-in_err-map_err-clause-crash g c =
@@ -109,12 +109,12 @@ returns-in_err-map_err-clause-crash g c =
     let inside : IsTrue first.in_transaction = ap (λ h. (state g.S.Store h).in_transaction) begun in
     let within : IsWithin first mid = record { crash = c.step.ensures.crash; was_open = c.step.ensures.was_open; preserved = c.step.ensures.preserved } in
     let asked = c.in_ok-ask_open.ensures.asked in
-    let there : HasCleanDisk mid → (office : OfficeLists) → Stands first office → Stands mid (stepped office c.args.call) × IsDatabase mid.now = λ clean office stands.
-    let done = mapped_is _ (λ (t : _ × StillValid). FnOnceReturnsAt g.F.FnOnce c.args.show (decided office c.args.call).reply (Ok t.0) × Stands mid (stepped office c.args.call) × IsDatabase mid.now × (t.1 ≡ valid_after (decided office c.args.call).change)) c.step.result c.map_err.result c.in_ok-done.done c.map_err.ensures.cases c.in_ok-done.was
+    let there : HasCleanDisk mid → (office : OfficeLists) → Stands first office → Stands mid (stepped office c.args.call.now) × IsDatabase mid.now = λ clean office stands.
+    let done = mapped_is _ (λ (t : _ × StillValid). FnOnceReturnsAt g.F.FnOnce c.args.show (decided office c.args.call.now).reply (Ok t.0) × Stands mid (stepped office c.args.call.now) × IsDatabase mid.now × (t.1 ≡ valid_after (decided office c.args.call.now).change)) c.step.result c.map_err.result c.in_ok-done.done c.map_err.ensures.cases c.in_ok-done.was
     (c.step.ensures.shown clean inside (begun_sound g.S.Store c.args.self.now c.ask_open.new.self asked c.transaction-tx.result.conn.now c.step.new.tx.conn.now begun within clean) office stands) in
     (done.1, done.2) in
-    survives_behind g.S.Store c.args.self.now c.ask_open.new.self asked c.args.call (state g.S.Store c.commit.new.self.0)
-    (survives_call g.S.Store c.ask_open.new.self c.transaction-tx.result.conn.now c.step.new.tx.conn.now c.commit.new.self.0 begun within c.commit.ensures.ended c.commit.ensures.survives c.args.call (asked_open g.S.Store c.args.self.now c.ask_open.new.self asked) there)
+    survives_behind g.S.Store c.args.self.now c.ask_open.new.self asked c.args.call.now (state g.S.Store c.commit.new.self.0)
+    (survives_call g.S.Store c.ask_open.new.self c.transaction-tx.result.conn.now c.step.new.tx.conn.now c.commit.new.self.0 begun within c.commit.ensures.ended c.commit.ensures.survives c.args.call.now (asked_open g.S.Store c.args.self.now c.ask_open.new.self asked) there)
 
 pub returns-clause-still : goal.returns-clause-still
 returns-clause-still g c = λ clean office stands none.
@@ -152,15 +152,15 @@ returns-clause-whole g c = λ clean office stands.
     let there = stands_same old first office (ap (λ h. (state g.S.Store h).now) begun) (asked_stands g.S.Store c.args.self.now c.ask_open.new.self asked opened office stands) in
     let inside : IsTrue first.in_transaction = ap (λ h. (state g.S.Store h).in_transaction) begun in
     let early : HasCleanDisk mid = omega (arith, c.commit.ensures.survives.clean) in
-    let done = mapped_is _ (λ (t : _ × StillValid). FnOnceReturnsAt g.F.FnOnce c.args.show (decided office c.args.call).reply (Ok t.0) × Stands mid (stepped office c.args.call) × IsDatabase mid.now × (t.1 ≡ valid_after (decided office c.args.call).change)) c.step.result c.map_err.result c.in_ok-done.done c.map_err.ensures.cases c.in_ok-done.was
+    let done = mapped_is _ (λ (t : _ × StillValid). FnOnceReturnsAt g.F.FnOnce c.args.show (decided office c.args.call.now).reply (Ok t.0) × Stands mid (stepped office c.args.call.now) × IsDatabase mid.now × (t.1 ≡ valid_after (decided office c.args.call.now).change)) c.step.result c.map_err.result c.in_ok-done.done c.map_err.ensures.cases c.in_ok-done.was
     (c.step.ensures.shown early inside (begun_sound g.S.Store c.args.self.now c.ask_open.new.self asked c.transaction-tx.result.conn.now c.step.new.tx.conn.now begun within early) office there) in
     let over = mapped_on {W = IsOver mid end} _ c.commit.result c.map_err-2.result c.in_ok-map_err.field-0 c.map_err-2.ensures.cases c.in_ok-map_err.was (c.commit.ensures.ok clean) in
-    whole_behind g.S.Store c.ask_open.new.self c.transaction-tx.result.conn.now c.step.new.tx.conn.now c.commit.new.self.0 begun within c.commit.ensures.ended c.commit.ensures.survives c.args.call office done.1 done.2 over.1
+    whole_behind g.S.Store c.ask_open.new.self c.transaction-tx.result.conn.now c.step.new.tx.conn.now c.commit.new.self.0 begun within c.commit.ensures.ended c.commit.ensures.survives c.args.call.now office done.1 done.2 over.1
     (itself_after g.S.Store c.step.new.tx.conn.now c.commit.new.self.0 g.met.S.Store.settled g.met.S.Store.stays over)
 
 pub returns-in_err-ask_open-clause-leaves : goal.returns-in_err-ask_open-clause-leaves
 returns-in_err-ask_open-clause-leaves g c =
-    leaves_failed g.S.Store c.args.self.now c.ask_open.new.self c.from_residual.result c.args.call c.from_residual.ensures.0 (asked_stop g.S.Store c.args.self.now c.ask_open.new.self c.in_err-ask_open.ensures.asked)
+    leaves_failed g.S.Store c.args.self.now c.ask_open.new.self c.from_residual.result c.args.call.now c.from_residual.ensures.0 (asked_stop g.S.Store c.args.self.now c.ask_open.new.self c.in_err-ask_open.ensures.asked)
 
 pub step-requires-clause-cached : goal.step-requires-clause-cached
 step-requires-clause-cached g c =

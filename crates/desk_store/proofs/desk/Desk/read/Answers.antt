@@ -9,7 +9,7 @@ use Rattle.sql_schema.specs.Statements.{IsDesk}
 use Rattle.sql_open.proofs.CrashLemmas.{nothing_then}
 use Rattle.sql_open.proofs.WholeLemmas.{leaves_whole}
 use Rattle.desk_store.proofs.JoinLemmas.{IsOver, as_it_was, asked_stands, asked_stop, begun_sound, desk_behind, desk_clean, leaves_behind, committed, dropped, itself_after, not_committed, same_behind, survives_nothing, survives_read, holds_within}
-use Rattle.desk_store.proofs.KeepingLemmas.{stands_same}
+use Rattle.desk_deciding.proofs.KeepingLemmas.{stands_same}
 use Rattle.desk_store.proofs.DeskReadLemmas.{error_of, mapped_failed, mapped_is, mapped_on}
 use Rattle.desk_store.proofs.desk.Desk.read.Goals as goal
 

@@ -1,0 +1,3 @@
+pub mod DecidingLemmas
+pub mod KeepingLemmas
+pub mod ReturnedLemmas

@@ -1,0 +1,3 @@
+pub mod CachedRecords
+pub mod Deciding
+pub mod LoadErrors
